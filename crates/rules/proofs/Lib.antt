@@ -1,0 +1,2 @@
+-- The theorems about the rules. A reader opens Theorems first.
+pub mod Samples

@@ -1,0 +1,13 @@
+-- The bench samples B1 to B10 hold of the definitions, by computation. Assumes nothing.
+use mathlib.Core.Path.{refl}
+use mathlib.Core.List.{flatMap}
+use Rattle.rules.specs.Lists.{all, any, keep, firstOf, among, upFrom, downFrom, same}
+use Rattle.rules.specs.Catalogue.{isOf, inRange}
+use Rattle.rules.specs.Selection.{asked, reachedIn, isValid, nextModules}
+use Rattle.rules.specs.Search.{barring, trialBy, tryEach, searchFrom, search, best, trialsOf}
+use Rattle.rules.specs.Sheet.{needLine, resolved, refutes, linesFrom, entriesFit, isRefuting}
+use Rattle.rules.specs.Samples.{Samples, samples, isFound, isNone, rowHolds}
+
+pub samples-hold : Samples
+unfolding all any keep firstOf among upFrom downFrom same isOf inRange asked reachedIn isValid nextModules barring trialBy tryEach searchFrom search best trialsOf needLine resolved refutes linesFrom entriesFit isRefuting samples isFound isNone rowHolds flatMap
+samples-hold = refl
