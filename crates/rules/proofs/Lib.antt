@@ -1,2 +1,4 @@
 -- The theorems about the rules. A reader opens Theorems first.
+pub mod Lists
+pub mod Readers
 pub mod Samples
