@@ -1,4 +1,7 @@
 -- The theorems about the rules. A reader opens Theorems first.
 pub mod Lists
 pub mod Readers
+pub mod Selections
+pub mod Partials
+pub mod Searches
 pub mod Samples
