@@ -1,4 +1,5 @@
 -- The theorems about the rules. A reader opens Theorems first.
 pub mod Lists
 pub mod Readers
+pub mod Reading
 pub mod Samples
