@@ -1,7 +1,9 @@
 -- The theorems about the rules. A reader opens Theorems first.
 pub mod Lists
 pub mod Readers
+pub mod Reading
 pub mod Selections
 pub mod Partials
 pub mod Searches
+pub mod Certificates
 pub mod Samples

@@ -1,0 +1,311 @@
+-- Reading catalogues: a text that is not refused gives a catalogue that is well formed and that the frames can carry (`reads-well-formed`).
+-- The catalogue read so far is `Sound`, which each good frame keeps. Assumes nothing.
+use mathlib.Core.Path.{_≡_, refl}
+use mathlib.Core.Logic.{_⊎_, inl, inr, ⊎-elim, _≢_}
+use mathlib.Core.Bool.{Bool, true, false, _&&_, _||_, not, cond, false≢true}
+use mathlib.Core.List.{List, [], _∷_, _++_}
+use Prim.Native.Nat.{ℕ, zero, suc, _+_, _*_, _-_, _≤_, _<_}
+use native.Mathlib.Omega.{arith}
+use native.Mathlib.Nat.{not-suc-le-zero}
+use lib.Dec.{ltb, leb, eqb}
+use borrow.Author.Tests.{ltb-true, ltb-false, leb-true, eqb-true, eqb-false, eq-eqb, lt-ltb, not-true}
+use lib.ListN.{length, getD, length-append, List·getD-append, List·getD-eq-default}
+use lib.Seq.{getD-append-seam}
+use Rattle.rules.specs.Lists.{isIn, all}
+use Rattle.rules.specs.Lines.{Line, unless, isDigit, shapeFits}
+use Rattle.rules.specs.Frames.{digitOf, frameOf, byteAt, versionAt}
+use Rattle.rules.specs.Catalogue.{Version, Need, Catalogue, catalogue, noCatalogue, noVersion, noNeed, versionAtPlace, needAt, placesOf}
+use Rattle.rules.specs.Catalogue.{Limits, CarriedLimits, WellFormed, Carried, catalogueReader, catalogueOf, Reading, reading, withFrame}
+use Rattle.rules.specs.Catalogue.{isHead, isVersion, isCaret, isNeed, lastVersion, versionIn, needIn, hasVersion, isOlder}
+use Rattle.rules.specs.Catalogue.{orderFits, contentFits, roomFits, rootFits}
+use Rattle.rules.specs.Promises.{ReadsWellFormed}
+use Rattle.rules.proofs.Lists.{and-fst, and-snd, and-both, or-cases, or-fst, or-snd, same-or-not}
+use Rattle.rules.proofs.Readers.{Run, Good, orElse-none, unless-none, fine-text, run-keeps}
+
+-- BYTES of a line of digits
+digit-below : (x : ℕ) → isDigit x ≡ true → digitOf x < 16
+digit-below x h = go (leb x 57) refl (or-cases (isIn 48 57 x) _ h)
+  where
+    go : (b : Bool) → leb x 57 ≡ b → (isIn 48 57 x ≡ true) ⊎ (isIn 65 70 x ≡ true) → cond b (x - 48) (x - 55) < 16
+    go true e k = let m = leb-true x 57 e in omega arith
+    go false e (inl p) = let m = leb-true x 57 (and-snd (leb 48 x) _ p) in omega arith
+    go false e (inr p) = let m = leb-true x 70 (and-snd (leb 65 x) _ p) in omega arith
+
+pub bytes-below : (ds : List ℕ) (i : ℕ) → all isDigit ds ≡ true → byteAt (frameOf ds) i < 256
+unfolding frameOf all
+bytes-below [] i h = omega arith
+bytes-below (a ∷ []) i h = omega arith
+bytes-below (a ∷ b ∷ ds) zero h =
+    let high = digit-below a (and-fst _ _ h) in
+    let low = digit-below b (and-fst _ _ (and-snd (isDigit a) _ h)) in
+    omega arith
+bytes-below (a ∷ b ∷ ds) (suc i) h = bytes-below ds i (and-snd (isDigit b) _ (and-snd (isDigit a) _ h))
+
+-- LISTS WITH ONE MORE ELEMENT
+abbrev longer : {A : Type 0} → List A → A → List A
+longer xs x = xs ++ (x ∷ [])
+
+module _ {A : Type 0} (d : A) (xs : List A) (x : A) where
+  -- what holds at every place, and of the new element at the next, holds at every place of the longer list
+  one-more : (P : ℕ → A → Type 0) → ((i : ℕ) → i < length xs → P i (getD xs i d)) → P (length xs) x →
+      (i : ℕ) → i < length (longer xs x) → P i (getD (longer xs x) i d)
+  one-more P old new i h = ⊎-elim next before (same-or-not i (length xs))
+    where
+      next : i ≡ length xs → P i (getD (longer xs x) i d)
+      next e = rw (e, getD-append-seam xs x [] d) new
+
+      before : i ≢ length xs → P i (getD (longer xs x) i d)
+      before e =
+          let g : i < length xs = omega (arith, length-append xs (x ∷ [])) in
+          rw (List·getD-append xs (x ∷ []) d i g) (old i g)
+
+  -- what holds of every two places, the lower one first, and of each with the new element holds of every two places of the longer list
+  one-more-pair : (R : A → A → Type 0) → ((i j : ℕ) → i < j → j < length xs → R (getD xs i d) (getD xs j d)) →
+      ((i : ℕ) → i < length xs → R (getD xs i d) x) →
+      (i j : ℕ) → i < j → j < length (longer xs x) → R (getD (longer xs x) i d) (getD (longer xs x) j d)
+  one-more-pair R old new i j h g = one-more (λ k y. i < k → R (getD (longer xs x) i d) y) before next j g h
+    where
+      same : i < length xs → getD (longer xs x) i d ≡ getD xs i d
+      same m = List·getD-append xs (x ∷ []) d i m
+
+      before : (k : ℕ) → k < length xs → i < k → R (getD (longer xs x) i d) (getD xs k d)
+      before k m n = rw (same (omega arith)) (old i k n m)
+
+      next : i < length xs → R (getD (longer xs x) i d) x
+      next m = rw (same m) (new i m)
+
+-- THE ORDER OF VERSIONS: by module, then by value
+abbrev Older : (one other : Version) → Type 0
+Older u v = (u .owner < v .owner) ⊎ ((u .owner ≡ v .owner) × (u .value < v .value))
+
+older-cases : (u v : Version) → isOlder u v ≡ true → Older u v
+unfolding isOlder
+older-cases u v h = ⊎-elim (λ p. inl (ltb-true _ _ p)) (λ p. inr (by-value p)) (or-cases (ltb (u .owner) (v .owner)) _ h)
+  where
+    by-value : (eqb (u .owner) (v .owner) && ltb (u .value) (v .value)) ≡ true → (u .owner ≡ v .owner) × (u .value < v .value)
+    by-value p = (eqb-true _ _ (and-fst _ _ p), ltb-true _ _ (and-snd (eqb (u .owner) (v .owner)) _ p))
+
+cases-older : (u v : Version) → Older u v → isOlder u v ≡ true
+unfolding isOlder
+cases-older u v (inl p) = or-fst _ (lt-ltb _ _ p)
+cases-older u v (inr p) = or-snd (ltb (u .owner) (v .owner)) (and-both (eq-eqb _ _ (p .0)) (lt-ltb _ _ (p .1)))
+
+pub older-trans : (u v w : Version) → isOlder u v ≡ true → isOlder v w ≡ true → isOlder u w ≡ true
+older-trans u v w p q = cases-older u w (go (older-cases u v p) (older-cases v w q))
+  where
+    go : Older u v → Older v w → Older u w
+    go (inl a) (inl b) = inl (omega arith)
+    go (inl a) (inr b) = inl (omega arith)
+    go (inr a) (inl b) = inl (omega arith)
+    go (inr a) (inr b) = inr (omega arith)
+
+-- SOUND: what holds of the catalogue so far, of each version and each need in it
+record VersionSound (modules : ℕ) (v : Version) : Type 0 where
+  owner : v .owner < modules
+  value : v .value < 16777216
+
+record NeedSound (modules : ℕ) (vs : List Version) (n : Need) : Type 0 where
+  needy : n .version < length vs
+  target : n .target < modules
+  other : n .target ≢ getD vs (n .version) noVersion .owner
+  range : n .low < n .high
+
+record Sound (l : Limits) (c : Catalogue) : Type 0 where
+  modules : c .modules ≤ 32
+  versions : (i : ℕ) → i < length (c .versions) → VersionSound (c .modules) (versionAtPlace c i)
+  rising : (i j : ℕ) → i < j → j < length (c .versions) → isOlder (versionAtPlace c i) (versionAtPlace c j) ≡ true
+  needs : (k : ℕ) → k < length (c .needs) → NeedSound (c .modules) (c .versions) (needAt c k)
+  room : length (c .needs) ≤ l .inAll
+
+empty-sound : (l : Limits) (m : ℕ) → m ≤ 32 → Sound l (catalogue m [] [])
+empty-sound l m h =
+    record {
+      modules = h;
+      versions = λ i p. absurd (not-suc-le-zero p);
+      rising = λ i j p q. absurd (not-suc-le-zero q);
+      needs = λ k p. absurd (not-suc-le-zero p);
+      room = omega arith;
+    }
+
+-- "hasVersion" tells whether there is one
+has-some : (vs : List Version) → hasVersion vs ≡ true → 0 < length vs
+has-some [] h = absurd (false≢true h)
+has-some (v ∷ vs) h = omega arith
+
+some-has : {i : ℕ} (vs : List Version) → i < length vs → hasVersion vs ≡ true
+some-has [] h = absurd (not-suc-le-zero h)
+some-has (v ∷ vs) h = refl
+
+-- one more version or need keeps a catalogue sound
+module _ (l : Limits) (c : Catalogue) (sound : Sound l c) where
+  -- what is newer than the last version is newer than all
+  newer-than-all : (v : Version) → isOlder (lastVersion c) v ≡ true →
+      (i : ℕ) → i < length (c .versions) → isOlder (versionAtPlace c i) v ≡ true
+  newer-than-all v h i g = ⊎-elim (λ e. rw e h) (λ e. older-trans _ _ _ (earlier e) h) (same-or-not i (length (c .versions) - 1))
+    where
+      earlier : i ≢ length (c .versions) - 1 → isOlder (versionAtPlace c i) (lastVersion c) ≡ true
+      earlier e = sound .rising i (length (c .versions) - 1) (omega arith) (omega arith)
+
+  version-sound : (v : Version) → VersionSound (c .modules) v → ((i : ℕ) → i < length (c .versions) → isOlder (versionAtPlace c i) v ≡ true) →
+      Sound l (catalogue (c .modules) (longer (c .versions) v) (c .needs))
+  version-sound v h newer =
+      record {
+        modules = sound .modules;
+        versions = one-more noVersion (c .versions) v (λ i. VersionSound (c .modules)) (sound .versions) h;
+        rising = one-more-pair noVersion (c .versions) v (λ u w. isOlder u w ≡ true) (sound .rising) newer;
+        needs = λ k p. still (sound .needs k p);
+        room = sound .room;
+      }
+    where
+      still : {n : Need} → NeedSound (c .modules) (c .versions) n → NeedSound (c .modules) (longer (c .versions) v) n
+      still {n} s =
+          record {
+            needy = omega (arith, length-append (c .versions) (v ∷ []));
+            target = s .target;
+            other = rw (List·getD-append (c .versions) (v ∷ []) noVersion (n .version) (s .needy)) (s .other);
+            range = s .range;
+          }
+
+  need-sound : (n : Need) → NeedSound (c .modules) (c .versions) n → length (c .needs) < l .inAll →
+      Sound l (catalogue (c .modules) (c .versions) (longer (c .needs) n))
+  need-sound n h g =
+      record {
+        modules = sound .modules;
+        versions = sound .versions;
+        rising = sound .rising;
+        needs = one-more noNeed (c .needs) n (λ k. NeedSound (c .modules) (c .versions)) (sound .needs) h;
+        room = omega (arith, length-append (c .needs) (n ∷ []));
+      }
+
+-- GOOD FRAMES: what a good line says of its frame
+record Fits (l : Limits) (s : Reading) (f : List ℕ) : Type 0 where
+  bytes : (i : ℕ) → byteAt f i < 256
+  order : orderFits s f ≡ true
+  content : contentFits (s .sofar) f ≡ true
+  room : roomFits l (s .sofar) f ≡ true
+
+good-fits : (l : Limits) (s : Reading) (x : Line) → Good (catalogueReader l) s x → Fits l s (frameOf (x .digits))
+unfolding shapeFits
+good-fits l s x g =
+    let f = frameOf (x .digits) in
+    let one = orElse-none (unless (orderFits s f) 5) _ (g .content) in
+    let two = orElse-none (unless (contentFits (s .sofar) f) 6) _ (one .1) in
+    record {
+      bytes = λ i. bytes-below (x .digits) i (and-snd (x .isEnded && leb 4 (length (x .digits)) && _) _ (g .shape));
+      order = unless-none (orderFits s f) 5 (omega arith) (one .0);
+      content = unless-none (contentFits (s .sofar) f) 6 (omega arith) (two .0);
+      room = unless-none (roomFits l (s .sofar) f) 7 (omega arith) (two .1);
+    }
+
+cond-else : (z b : Bool) → cond z false b ≡ true → b ≡ true
+cond-else true b e = absurd (false≢true e)
+cond-else false b e = e
+
+-- a frame that fits keeps the catalogue sound
+module _ (l : Limits) (s : Reading) (f : List ℕ) (fits : Fits l s f) (sound : Sound l (s .sofar)) where
+  head-kept : isHead f ≡ true → Sound l (withFrame (s .sofar) f)
+  unfolding contentFits withFrame
+  head-kept e = rw e (empty-sound l (byteAt f 1) (leb-true _ 32 (and-snd (leb 1 (byteAt f 1)) _ (rw e at (fits .content)))))
+
+  -- past the head a version frame is newer than the last version, and a need frame follows a version
+  in-body : isHead f ≡ false →
+      ((not (isVersion f) || not (hasVersion (s .sofar .versions)) || isOlder (lastVersion (s .sofar)) (versionIn f)) ≡ true) ×
+      ((not (isNeed f) || hasVersion (s .sofar .versions)) ≡ true)
+  unfolding orderFits
+  in-body e =
+      let t = cond-else (eqb (s .stands) 0) _ (rw e at (fits .order)) in
+      (search (and-fst, and-snd), search (and-fst, and-snd))
+
+  version-kept : isHead f ≡ false → isVersion f ≡ true → Sound l (withFrame (s .sofar) f)
+  unfolding contentFits withFrame
+  version-kept e v = rw (e, v) (version-sound l (s .sofar) sound (versionIn f) fit newer)
+    where
+      fit : VersionSound (s .sofar .modules) (versionIn f)
+      fit =
+          let t = rw (e, v) at (fits .content) in
+          let major = fits .bytes 2 in
+          let minor = fits .bytes 3 in
+          let patch = fits .bytes 4 in
+          record { owner = ltb-true _ _ (search (and-fst, and-snd)); value = omega arith }
+
+      newer : (i : ℕ) → i < length (s .sofar .versions) → isOlder (versionAtPlace (s .sofar) i) (versionIn f) ≡ true
+      newer i h = newer-than-all l (s .sofar) sound (versionIn f) (rw (v, some-has _ h) at (in-body e .0)) i h
+
+  need-kept : isHead f ≡ false → isVersion f ≡ false → isNeed f ≡ true → Sound l (withFrame (s .sofar) f)
+  unfolding contentFits roomFits withFrame
+  need-kept e v n = rw (e, v, n) (need-sound l (s .sofar) sound (needIn (s .sofar) f) fit room)
+    where
+      room : length (s .sofar .needs) < l .inAll
+      room = let t = rw (v, n) at (fits .room) in ltb-true _ _ (search (and-fst, and-snd))
+
+      rises : (z : Bool) → cond z (not (eqb (byteAt f 2) 255)) (ltb (versionAt f 2) (versionAt f 5)) ≡ true →
+          versionAt f 2 < cond z ((byteAt f 2 + 1) * 65536) (versionAt f 5)
+      rises true h = let minor = fits .bytes 3 in let patch = fits .bytes 4 in omega arith
+      rises false h = ltb-true _ _ h
+
+      fit : NeedSound (s .sofar .modules) (s .sofar .versions) (needIn (s .sofar) f)
+      fit =
+          let t = rw (e, v, n) at (fits .content) in
+          let h = has-some (s .sofar .versions) (rw n at (in-body e .1)) in
+          record {
+            needy = omega arith;
+            target = ltb-true _ _ (search (and-fst, and-snd));
+            other = eqb-false _ _ (not-true _ (search (and-fst, and-snd)));
+            range = rises (isCaret f) (search (and-fst, and-snd));
+          }
+
+  frame-kept : Sound l (withFrame (s .sofar) f)
+  unfolding withFrame
+  frame-kept = go (isHead f) refl (isVersion f) refl (isNeed f) refl
+    where
+      go : (h : Bool) → isHead f ≡ h → (v : Bool) → isVersion f ≡ v → (n : Bool) → isNeed f ≡ n → Sound l (withFrame (s .sofar) f)
+      go true a v b n d = head-kept a
+      go false a true b n d = version-kept a b
+      go false a false b true d = need-kept a b d
+      go false a false b false d = rw (a, b, d) sound
+
+-- THE CATALOGUE READ
+run-sound : (l : Limits) {u : Reading} {ls : List Line} → Run (catalogueReader l) (reading 0 noCatalogue) ls u →
+    Sound l (u .sofar) × (rootFits (u .sofar) ≡ true)
+run-sound l {u} run =
+    let kept = run-keeps (catalogueReader l) (λ s. Sound l (s .sofar)) keeps (empty-sound l 0 (omega arith)) run in
+    (kept .0, unless-none (rootFits (u .sofar)) 8 (omega arith) (kept .2))
+  where
+    keeps : (s : Reading) (x : Line) → Sound l (s .sofar) → Good (catalogueReader l) s x → Sound l (withFrame (s .sofar) (frameOf (x .digits)))
+    keeps s x h g = frame-kept l s (frameOf (x .digits)) (good-fits l s x g) h
+
+only-one : (xs : List ℕ) → length xs ≡ 1 → (i : ℕ) × (xs ≡ i ∷ [])
+only-one [] h = absurd (omega arith)
+only-one (x ∷ []) h = (x, refl)
+only-one (x ∷ y ∷ ys) h = absurd (omega arith)
+
+sound-well-formed : (l : Limits) (c : Catalogue) → Sound l c → rootFits c ≡ true → WellFormed c
+sound-well-formed l c h r =
+    record {
+      owners = λ i p. h .versions i p .owner;
+      rising = h .rising;
+      needies = λ k p. h .needs k p .needy;
+      targets = λ k p. h .needs k p .target;
+      others = λ k p. h .needs k p .other;
+      ranges = λ k p. h .needs k p .range;
+      root = only-one (placesOf c 0) (eqb-true _ 1 r);
+    }
+
+sound-carried : (l : Limits) (c : Catalogue) → CarriedLimits l → Sound l c → Carried c
+sound-carried l c k h =
+    record {
+      modules = h .modules;
+      values = λ i. value i (ltb i (length (c .versions))) refl;
+      needs = omega arith;
+    }
+  where
+    -- past the last version there is none, of value 0
+    value : (i : ℕ) (z : Bool) → ltb i (length (c .versions)) ≡ z → versionAtPlace c i .value < 16777216
+    value i true e = h .versions i (ltb-true _ _ e) .value
+    value i false e = rw (List·getD-eq-default (c .versions) noVersion (ltb-false _ _ e)) (omega arith)
+
+pub reads-well-formed : ReadsWellFormed
+reads-well-formed l t k e =
+    let read = fine-text (catalogueReader l) (l .bytes) (reading 0 noCatalogue) t e in
+    let (sound, root) = run-sound l (read .3) in
+    rw (read .1, catalogueOf) (sound-well-formed l _ sound root, sound-carried l _ k sound)
