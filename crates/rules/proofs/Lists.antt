@@ -307,3 +307,15 @@ same-refl (x ∷ xs) = and-both (eq-eqb x x refl) (same-refl xs)
 
 pub same-false : (xs ys : List ℕ) → same xs ys ≡ false → xs ≢ ys
 same-false xs ys e p = not-both (subst (λ (l : List ℕ). same xs l ≡ true) p (same-refl xs)) e
+
+-- the first that is kept of a rising list is the least
+pub keep-least : (f : ℕ → Bool) (i n m k : ℕ) (ms : List ℕ) → keep f (upFrom i n) ≡ m ∷ ms → Mem k (upFrom i n) → f k ≡ true → m ≤ k
+unfolding keep upFrom
+keep-least f i zero m k ms e h t = absurd (not-nil h)
+keep-least f i (suc n) m k ms e h t = go (f i) refl e h (λ p q. keep-least f (suc i) n m k ms p q t)
+  where
+    go : (b : Bool) → f i ≡ b → cond b (i ∷ keep f (upFrom (suc i) n)) (keep f (upFrom (suc i) n)) ≡ m ∷ ms → Mem k (i ∷ upFrom (suc i) n) →
+        (keep f (upFrom (suc i) n) ≡ m ∷ ms → Mem k (upFrom (suc i) n) → m ≤ k) → m ≤ k
+    go true p q x r = let z : i ≡ m = cc in let l = upFrom-mem i (suc n) k x .0 in omega arith
+    go false p q (here z) r = absurd (not-both t (rw z p))
+    go false p q (there x) r = r q x

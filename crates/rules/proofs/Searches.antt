@@ -26,6 +26,17 @@ next-cases c p = go (nextModules c p) refl
     go [] e = inl e
     go (m ∷ ms) e = inr (m, ms, e)
 
+-- without unset modules nothing is next
+pub all-set : (c : Catalogue) (p : Selection) → Partial c p → countOf 0 p ≤ 0 → nextModules c p ≡ []
+all-set c p g z = ⊎-elim (λ e. e) (λ r. absurd (none (r .0) (next-first c p (r .0) (r .1) (r .2)))) (next-cases c p)
+  where
+    none : (m : ℕ) → Next c p m → ⊥
+    none m n =
+        let f = n .fits in
+        let l = g .size in
+        let u = unset-left p m (omega arith) (n .unset) in
+        omega arith
+
 -- THE STEPS of the definitions that go by the next module
 module _ (n : ℕ) (c : Catalogue) (t : Tries) (p : Selection) where
   pub search-done : nextModules c p ≡ [] → searchFrom (suc n) c t p ≡ searched (some p) 0
@@ -190,16 +201,9 @@ module _ (c : Catalogue) (t : Tries) (w : WellFormed c) (τ : IsTries c t) where
   done-outcome : (n : ℕ) (p : Selection) → Partial c p → nextModules c p ≡ [] → CertifiedFrom n c t p p → Outcome n c t p (some p)
   done-outcome n p g e x = (whole-valid c p w g e, λ m i h. h, x)
 
-  -- without unset modules nothing is next
-  all-set : (p : Selection) → Partial c p → countOf 0 p ≤ 0 → nextModules c p ≡ []
-  all-set p g z = ⊎-elim (λ e. e) (λ r. absurd (none (r .0) (next-first c p (r .0) (r .1) (r .2)))) (next-cases c p)
-    where
-      none : (m : ℕ) → Next c p m → ⊥
-      none m n = let f = n .fits in let l = g .size in let u = unset-left p m (omega arith) (n .unset) in omega arith
-
   pub search-outcome : (n : ℕ) (p : Selection) → Partial c p → countOf 0 p ≤ n → Outcome n c t p (searchFrom n c t p .found)
   unfolding searchFrom CertifiedFrom
-  search-outcome zero p g z = done-outcome zero p g (all-set p g z) tt
+  search-outcome zero p g z = done-outcome zero p g (all-set c p g z) tt
   search-outcome (suc n) p g z = ⊎-elim done (next (λ q h l. search-outcome n q h l)) (next-cases c p)
     where
       done : nextModules c p ≡ [] → Outcome (suc n) c t p (searchFrom (suc n) c t p .found)
