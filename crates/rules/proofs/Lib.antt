@@ -6,4 +6,6 @@ pub mod Selections
 pub mod Partials
 pub mod Searches
 pub mod Certificates
+pub mod Incompatibilities
+pub mod Sheets
 pub mod Samples

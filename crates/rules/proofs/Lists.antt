@@ -9,7 +9,8 @@ use native.Mathlib.Omega.{arith}
 use native.Mathlib.Nat.{not-suc-le-zero, not-le-of-lt}
 use lib.Dec.{ltb, leb, eqb}
 use borrow.Author.Tests.{ltb-true, ltb-false, leb-true, eqb-true, eqb-false, eq-eqb, ne-eqb, le-ltb, lt-ltb, le-leb, not-true, not-false}
-use lib.ListN.{length, getD}
+use lib.ListN.{length, getD, length-append, List·getD-append}
+use lib.Seq.{getD-append-seam}
 use Rattle.rules.specs.Lists.{isIn, all, any, keep, firstOf, among, countOf, ahead, upFrom, below, downFrom, same}
 
 -- TESTS
@@ -319,3 +320,36 @@ keep-least f i (suc n) m k ms e h t = go (f i) refl e h (λ p q. keep-least f (s
     go true p q x r = let z : i ≡ m = cc in let l = upFrom-mem i (suc n) k x .0 in omega arith
     go false p q (here z) r = absurd (not-both t (rw z p))
     go false p q (there x) r = r q x
+
+-- LISTS WITH ONE MORE ELEMENT
+abbrev pub longer : {A : Type 0} → List A → A → List A
+longer xs x = xs ++ (x ∷ [])
+
+module _ {A : Type 0} (d : A) (xs : List A) (x : A) where
+  -- what holds at every place, and of the new element at the next, holds at every place of the longer list
+  pub one-more : (P : ℕ → A → Type 0) → ((i : ℕ) → i < length xs → P i (getD xs i d)) → P (length xs) x →
+      (i : ℕ) → i < length (longer xs x) → P i (getD (longer xs x) i d)
+  one-more P old new i h = ⊎-elim next before (same-or-not i (length xs))
+    where
+      next : i ≡ length xs → P i (getD (longer xs x) i d)
+      next e = rw (e, getD-append-seam xs x [] d) new
+
+      before : i ≢ length xs → P i (getD (longer xs x) i d)
+      before e =
+          let g : i < length xs = omega (arith, length-append xs (x ∷ [])) in
+          rw (List·getD-append xs (x ∷ []) d i g) (old i g)
+
+  -- what holds of every two places, the lower one first, and of each with the new element holds of every two places of the longer list
+  pub one-more-pair : (R : A → A → Type 0) → ((i j : ℕ) → i < j → j < length xs → R (getD xs i d) (getD xs j d)) →
+      ((i : ℕ) → i < length xs → R (getD xs i d) x) →
+      (i j : ℕ) → i < j → j < length (longer xs x) → R (getD (longer xs x) i d) (getD (longer xs x) j d)
+  one-more-pair R old new i j h g = one-more (λ k y. i < k → R (getD (longer xs x) i d) y) before next j g h
+    where
+      same : i < length xs → getD (longer xs x) i d ≡ getD xs i d
+      same m = List·getD-append xs (x ∷ []) d i m
+
+      before : (k : ℕ) → k < length xs → i < k → R (getD (longer xs x) i d) (getD xs k d)
+      before k m n = rw (same (omega arith)) (old i k n m)
+
+      next : i < length xs → R (getD (longer xs x) i d) x
+      next m = rw (same m) (new i m)

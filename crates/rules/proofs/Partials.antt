@@ -186,7 +186,7 @@ module _ (p : Selection) (m i : ℕ) (fits : m < length p) where
   pub choice-keeps : chosenAt p m ≡ 0 → Keeps p (withChoice p m i)
   choice-keeps z k j e = chosen-old p m i k (λ q. suc-not-zero e (subst (λ (x : ℕ). chosenAt p x ≡ 0) (sym q) z)) ∙ e
 
-leavesOut-parts : (c : Catalogue) (k x : ℕ) → leavesOut c k x ≡ true → (j : ℕ) × (x ≡ suc j) × (inRange c (needAt c k) j ≡ false)
+pub leavesOut-parts : (c : Catalogue) (k x : ℕ) → leavesOut c k x ≡ true → (j : ℕ) × (x ≡ suc j) × (inRange c (needAt c k) j ≡ false)
 leavesOut-parts c k zero e = absurd (false≢true e)
 leavesOut-parts c k (suc j) e = (j, refl, not-true _ e)
 

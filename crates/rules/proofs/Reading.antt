@@ -19,7 +19,7 @@ use Rattle.rules.specs.Catalogue.{Limits, CarriedLimits, WellFormed, Car
 use Rattle.rules.specs.Catalogue.{isHead, isVersion, isCaret, isNeed, lastVersion, versionIn, needIn, hasVersion, isOlder}
 use Rattle.rules.specs.Catalogue.{orderFits, contentFits, roomFits, rootFits}
 use Rattle.rules.specs.Promises.{ReadsWellFormed}
-use Rattle.rules.proofs.Lists.{and-fst, and-snd, and-both, or-cases, or-fst, or-snd, same-or-not}
+use Rattle.rules.proofs.Lists.{and-fst, and-snd, and-both, or-cases, or-fst, or-snd, same-or-not, longer, one-more, one-more-pair}
 use Rattle.rules.proofs.Readers.{Run, Good, orElse-none, unless-none, fine-text, run-keeps}
 
 -- BYTES of a line of digits
@@ -40,39 +40,6 @@ bytes-below (a ∷ b ∷ ds) zero h =
     let low = digit-below b (and-fst _ _ (and-snd (isDigit a) _ h)) in
     omega arith
 bytes-below (a ∷ b ∷ ds) (suc i) h = bytes-below ds i (and-snd (isDigit b) _ (and-snd (isDigit a) _ h))
-
--- LISTS WITH ONE MORE ELEMENT
-abbrev longer : {A : Type 0} → List A → A → List A
-longer xs x = xs ++ (x ∷ [])
-
-module _ {A : Type 0} (d : A) (xs : List A) (x : A) where
-  -- what holds at every place, and of the new element at the next, holds at every place of the longer list
-  one-more : (P : ℕ → A → Type 0) → ((i : ℕ) → i < length xs → P i (getD xs i d)) → P (length xs) x →
-      (i : ℕ) → i < length (longer xs x) → P i (getD (longer xs x) i d)
-  one-more P old new i h = ⊎-elim next before (same-or-not i (length xs))
-    where
-      next : i ≡ length xs → P i (getD (longer xs x) i d)
-      next e = rw (e, getD-append-seam xs x [] d) new
-
-      before : i ≢ length xs → P i (getD (longer xs x) i d)
-      before e =
-          let g : i < length xs = omega (arith, length-append xs (x ∷ [])) in
-          rw (List·getD-append xs (x ∷ []) d i g) (old i g)
-
-  -- what holds of every two places, the lower one first, and of each with the new element holds of every two places of the longer list
-  one-more-pair : (R : A → A → Type 0) → ((i j : ℕ) → i < j → j < length xs → R (getD xs i d) (getD xs j d)) →
-      ((i : ℕ) → i < length xs → R (getD xs i d) x) →
-      (i j : ℕ) → i < j → j < length (longer xs x) → R (getD (longer xs x) i d) (getD (longer xs x) j d)
-  one-more-pair R old new i j h g = one-more (λ k y. i < k → R (getD (longer xs x) i d) y) before next j g h
-    where
-      same : i < length xs → getD (longer xs x) i d ≡ getD xs i d
-      same m = List·getD-append xs (x ∷ []) d i m
-
-      before : (k : ℕ) → k < length xs → i < k → R (getD (longer xs x) i d) (getD xs k d)
-      before k m n = rw (same (omega arith)) (old i k n m)
-
-      next : i < length xs → R (getD (longer xs x) i d) x
-      next m = rw (same m) (new i m)
 
 -- THE ORDER OF VERSIONS: by module, then by value
 abbrev Older : (one other : Version) → Type 0
