@@ -3,4 +3,5 @@ pub mod Lists
 pub mod Readers
 pub mod Written
 pub mod SheetText
+pub mod SelectionText
 pub mod Samples

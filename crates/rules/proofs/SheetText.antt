@@ -3,21 +3,21 @@
 use mathlib.Core.Path.{_≡_, refl, sym, _∙_, ap}
 use mathlib.Core.Logic.{_⊎_, inl, inr, ⊎-elim, _≢_}
 use mathlib.Core.Bool.{Bool, true, false, _||_, cond, false≢true}
-use mathlib.Core.List.{List, [], _∷_, _++_, flatMap, append-assoc, append-nil}
+use mathlib.Core.List.{List, [], _∷_, _++_, map, flatMap, append-assoc, append-nil}
 use Prim.Native.Nat.{ℕ, suc, _+_, _*_, _-_, _/_, _%_, _≤_, _<_}
 use native.Mathlib.Omega.{arith}
 use lib.Dec.{eqb}
 use borrow.Author.Tests.{ltb-true, leb-true, eqb-true, eqb-false, ne-eqb}
 use lib.ListN.{length, length-append}
-use Rattle.rules.specs.Lists.{isIn, upFrom}
+use Rattle.rules.specs.Lists.{isIn, upFrom, below}
 use Rattle.rules.specs.Lines.{fine, Line, linesOf}
-use Rattle.rules.specs.Frames.{frameOf, byteAt, kindOf, pairAt, kinds, digitsIn, digitsFor, sheets, faultOf, checked, frameText, pairBytes}
+use Rattle.rules.specs.Frames.{frameOf, byteAt, kindOf, pairAt, kinds, digitsIn, digitsFor, sheets, lineFault, faultOf, checked, frameText, pairBytes}
 use Rattle.rules.specs.Catalogue.{Catalogue, Carried}
 use Rattle.rules.specs.Sheet.{Entry, cites, resolves, entryFits, entriesFit, refutes, lastLine, mostLines, isRefuting, isSheetHead, isNeedLine, isResolved, isSheetEnd, entryIn, SheetReading, sheetReading, sheetOrderFits, sheetContentFits, withSheetFrame, sheetReader, sheetFault, entryText, sheetText}
 use Rattle.rules.specs.Promises.{AcceptsExactly}
 use Rattle.rules.proofs.Lists.{and-fst, and-snd, and-both, or-cases}
-use Rattle.rules.proofs.Readers.{Run, stop, step, Good, orElse-none, unless-none, good-line, fine-text, run-text, run-keeps}
-use Rattle.rules.proofs.Written.{Bytes, lineText, lines-text, frame-length, frame-step, good-written}
+use Rattle.rules.proofs.Readers.{Run, stop, step, orElse-none, unless-none, good-line, fine-text, run-text, run-keeps}
+use Rattle.rules.proofs.Written.{Bytes, lineText, lines-text, frame-length, frame-step, good-bytes, good-text}
 
 -- ENTRIES as frames
 abbrev entryBytes : Entry → List ℕ
@@ -29,6 +29,7 @@ unfolding entryText
 entry-text (cites k) = refl
 entry-text (resolves a b m) = refl
 
+-- the two bytes of a number, told by the number
 pair-written : (a b : ℕ) → b < 256 → ((a * 256 + b) / 256 ≡ a) × ((a * 256 + b) % 256 ≡ b)
 pair-written a b h = (omega arith, omega arith)
 
@@ -39,6 +40,7 @@ module _ (f : List ℕ) (e : isEntry f ≡ true) where
   entry-kind : (kindOf f ≡ 33) ⊎ (kindOf f ≡ 34)
   entry-kind = ⊎-elim (λ p. inl (eqb-true (kindOf f) 33 p)) (λ p. inr (eqb-true (kindOf f) 34 p)) (or-cases (isNeedLine f) _ e)
 
+  -- it is neither a head nor an end
   entry-only : (isSheetHead f ≡ false) × (isSheetEnd f ≡ false)
   entry-only = ⊎-elim (λ p. rw p (refl, refl)) (λ p. rw p (refl, refl)) entry-kind
 
@@ -59,37 +61,49 @@ length-last xs x = rw length-append (omega arith)
 
 module _ (c : Catalogue) where
   -- FROM A RUN TO THE TEXT
-  good-frame : (s : SheetReading) (l : Line) → Good (sheetReader c) s l → (sheetOrderFits s (frameOf (l .digits)) ≡ true) × (sheetContentFits c s (frameOf (l .digits)) ≡ true)
-  good-frame s l g =
-      let parts = orElse-none _ _ (g .content) in
-      (unless-none _ 5 (omega arith) (parts .0), unless-none _ 6 (omega arith) (parts .1))
+  -- what a line with no fault says
+  record Taken (s : SheetReading) (l : Line) : Type 0 where
+    order : sheetOrderFits s (frameOf (l .digits)) ≡ true
+    content : sheetContentFits c s (frameOf (l .digits)) ≡ true
+    bytes : (i : ℕ) → byteAt (frameOf (l .digits)) i < 256
+    text : (n : ℕ) → digitsFor sheets (kindOf (frameOf (l .digits))) ≡ 2 * n + 2 → lineText l ≡ frameText (map (byteAt (frameOf (l .digits))) (below n))
 
-  -- a good line of an entry's kind is that entry as written
-  entry-line : (s : SheetReading) (l : Line) → Good (sheetReader c) s l → isEntry (frameOf (l .digits)) ≡ true → lineText l ≡ entryText (entryIn (frameOf (l .digits)))
+  taken-line : (s : SheetReading) (l : Line) → lineFault (sheetReader c) s l ≡ 0 → Taken s l
+  taken-line s l e =
+      let good = good-line (sheetReader c) s l e in
+      let parts = orElse-none _ _ (good .content) in
+      record {
+        order = unless-none _ 5 (omega arith) (parts .0);
+        content = unless-none _ 6 (omega arith) (parts .1);
+        bytes = good-bytes (sheetReader c) s l good;
+        text = λ n. good-text (sheetReader c) s l n good;
+      }
+
+  -- a line of an entry's kind is that entry as written
+  entry-line : (s : SheetReading) (l : Line) → Taken s l → isEntry (frameOf (l .digits)) ≡ true → lineText l ≡ entryText (entryIn (frameOf (l .digits)))
   unfolding kinds digitsIn entryText upFrom
-  entry-line s l g e = ⊎-elim cited resolving (entry-kind (frameOf (l .digits)) e)
+  entry-line s l g e = ⊎-elim cited resolving (entry-kind f e)
     where
       f : List ℕ
       f = frameOf (l .digits)
 
+      first : (pairAt f 1 / 256 ≡ byteAt f 1) × (pairAt f 1 % 256 ≡ byteAt f 2)
+      first = pair-written (byteAt f 1) (byteAt f 2) (g .bytes 2)
+
+      second : (pairAt f 3 / 256 ≡ byteAt f 3) × (pairAt f 3 % 256 ≡ byteAt f 4)
+      second = pair-written (byteAt f 3) (byteAt f 4) (g .bytes 4)
+
       cited : kindOf f ≡ 33 → lineText l ≡ entryText (entryIn f)
-      cited k =
-          let w = good-written (sheetReader c) s l 3 g (rw k refl) in
-          let p = pair-written (byteAt f 1) (byteAt f 2) (w .1 2) in
-          rw (k, p .0, p .1) (rw k at (w .0))
+      cited k = rw (k, first .0, first .1) (rw k at (g .text 3 (rw k refl)))
 
       resolving : kindOf f ≡ 34 → lineText l ≡ entryText (entryIn f)
-      resolving k =
-          let w = good-written (sheetReader c) s l 6 g (rw k refl) in
-          let p = pair-written (byteAt f 1) (byteAt f 2) (w .1 2) in
-          let q = pair-written (byteAt f 3) (byteAt f 4) (w .1 4) in
-          rw (k, p .0, p .1, q .0, q .1) (rw k at (w .0))
+      resolving k = rw (k, first .0, first .1, second .0, second .1) (rw k at (g .text 6 (rw k refl)))
 
   -- nothing follows the end
   after-end : {s u : SheetReading} {ls : List Line} → Run (sheetReader c) s ls u → s .stands ≡ 2 → (ls ≡ []) × (u ≡ s)
   unfolding sheetOrderFits
   after-end (stop e z) h = (refl, refl)
-  after-end (step {s} {l = l} e n) h = absurd (false≢true (rw h at (good-frame s l (good-line (sheetReader c) s l e) .0)))
+  after-end (step {s} {l = l} e n) h = absurd (false≢true (rw h at (taken-line s l e .order)))
 
   -- the lines from a state in the body on: the entries that are due, and the end
   record Rest (s : SheetReading) (ls : List Line) (u : SheetReading) : Type 0 where
@@ -103,17 +117,14 @@ module _ (c : Catalogue) where
   unfolding kinds digitsIn upFrom flatMap entriesFit sheetOrderFits
   rest-of-run (stop {s} e z) h = absurd (false≢true (rw h at e))
   rest-of-run (step {s} {u} {l} {ls} e n) h =
-      go (eqb (s .due) 0) refl (rw h at (fits .0))
+      go (eqb (s .due) 0) refl (rw h at (taken .order))
       (λ i. rw (entry-after f i s) at (rest-of-run n (ap (λ (x : SheetReading). x .stands) (entry-after f i s))))
     where
       f : List ℕ
       f = frameOf (l .digits)
 
-      good : Good (sheetReader c) s l
-      good = good-line (sheetReader c) s l e
-
-      fits : (sheetOrderFits s f ≡ true) × (sheetContentFits c s f ≡ true)
-      fits = good-frame s l good
+      taken : Taken s l
+      taken = taken-line s l e
 
       after : SheetReading
       after = sheetReading 1 (s .due - 1) (s .entries ++ (entryIn f ∷ []))
@@ -122,25 +133,25 @@ module _ (c : Catalogue) where
       next i d r =
           record {
             due = entryIn f ∷ r .due;
-            text = cc (entry-line s l good i, r .text, append-assoc (entryText (entryIn f)) (flatMap entryText (r .due)) (frameText (36 ∷ [])));
+            text = cc (entry-line s l taken i, r .text, append-assoc (entryText (entryIn f)) (flatMap entryText (r .due)) (frameText (36 ∷ [])));
             entries = r .entries ∙ append-assoc (s .entries) (entryIn f ∷ []) (r .due);
-            fits = and-both (rw (entry-content f i c s) at (fits .1)) (rw (length-last (s .entries) (entryIn f)) at (r .fits));
+            fits = and-both (rw (entry-content f i c s) at (taken .content)) (rw (length-last (s .entries) (entryIn f)) at (r .fits));
             count = let n = r .count in omega arith;
           }
 
       ended : kindOf f ≡ 36 → s .due ≡ 0 → Rest s (l ∷ ls) u
       ended k d =
-          let w = good-written (sheetReader c) s l 1 good (rw k refl) in
           let nothing = after-end n (ap (λ (x : SheetReading). x .stands) (end-after f k s)) in
           record {
             due = [];
-            text = rw (nothing .0, append-nil) (rw k at (w .0));
+            text = rw (nothing .0, append-nil) (rw k at (taken .text 1 (rw k refl)));
             entries = ap (λ (x : SheetReading). x .entries) (nothing .1 ∙ end-after f k s) ∙ sym (append-nil (s .entries));
             fits = refl;
             count = sym d;
           }
 
-      go : (b : Bool) → eqb (s .due) 0 ≡ b → cond b (isSheetEnd f) (isEntry f) ≡ true → (isEntry f ≡ true → Rest after ls u) → Rest s (l ∷ ls) u
+      go : (b : Bool) → eqb (s .due) 0 ≡ b → cond b (isSheetEnd f) (isEntry f) ≡ true → (isEntry f ≡ true → Rest after ls u) →
+          Rest s (l ∷ ls) u
       go true d k r = ended (eqb-true (kindOf f) 36 k) (eqb-true (s .due) 0 d)
       go false d k r = next k (eqb-false (s .due) 0 d) (r k)
 
@@ -154,14 +165,11 @@ module _ (c : Catalogue) where
       f : List ℕ
       f = frameOf (l .digits)
 
-      good : Good (sheetReader c) s l
-      good = good-line (sheetReader c) s l e
-
-      fits : (sheetOrderFits s f ≡ true) × (sheetContentFits c s f ≡ true)
-      fits = good-frame s l good
+      taken : Taken s l
+      taken = taken-line s l e
 
       kind : kindOf f ≡ 32
-      kind = eqb-true (kindOf f) 32 (rw h at (fits .0))
+      kind = eqb-true (kindOf f) 32 (rw h at (taken .order))
 
       rest : Rest (sheetReading 1 (pairAt f 1) []) ls u
       rest = rw kind at (rest-of-run n (rw kind refl))
@@ -173,7 +181,7 @@ module _ (c : Catalogue) where
       count = rw (rest .entries) (rest .count)
 
       counted : isIn 1 mostLines (length es) ≡ true
-      counted = rw count (rw kind at (fits .1))
+      counted = rw count (rw kind at (taken .content))
 
       fitting : entriesFit c 0 es ≡ true
       fitting = rw (rest .entries) (rest .fits)
@@ -183,15 +191,15 @@ module _ (c : Catalogue) where
 
       head : lineText l ≡ frameText (32 ∷ pairBytes (length es))
       head =
-          let w = good-written (sheetReader c) s l 3 good (rw kind refl) in
-          let p = pair-written (byteAt f 1) (byteAt f 2) (w .1 2) in
-          rw (count, p .0, p .1) (rw kind at (w .0))
+          let p = pair-written (byteAt f 1) (byteAt f 2) (taken .bytes 2) in
+          rw (count, p .0, p .1) (rw kind at (taken .text 3 (rw kind refl)))
 
       text : flatMap lineText (l ∷ ls) ≡ sheetText es
       text =
           cc (head, rest .text, rest .entries, append-assoc (frameText (32 ∷ pairBytes (length es))) (flatMap entryText es) (frameText (36 ∷ [])))
 
   -- FROM A SHEET TO THE RUN
+  -- an entry as a frame, which is read back as the entry
   record EntryFrame (e : Entry) : Type 0 where
     bytes : Bytes (entryBytes e)
     some : 0 < length (entryBytes e)
@@ -214,6 +222,7 @@ module _ (c : Catalogue) where
       let other : b / 256 * 256 + b % 256 ≡ b = omega arith in
       record { bytes = omega arith; some = omega arith; kind = refl; digits = refl; read = rw (one, other) }
 
+  -- the frame of an entry that fits has no fault while entries are due
   entry-good : (n : ℕ) (before : List Entry) (f : List ℕ) → isEntry f ≡ true → entryFits c (length before) (entryIn f) ≡ true →
       sheetReader c .fault (sheetReading 1 (suc n) before) f ≡ 0
   unfolding sheetOrderFits

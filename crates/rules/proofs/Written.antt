@@ -62,6 +62,7 @@ hex-digits [] h = refl
 hex-digits (b ∷ bs) h =
     and-both (digit-read (b / 16) (omega arith) .1) (and-both (digit-read (b % 16) (omega arith) .1) (hex-digits bs (h .1)))
 
+-- bytes, read back from their digits
 frame-read : (bs : List ℕ) → Bytes bs → frameOf (hexOf bs) ≡ bs
 unfolding hexOf frameOf
 frame-read [] h = refl
@@ -70,7 +71,8 @@ frame-read (b ∷ bs) h =
     (ap (λ (x : ℕ). x ∷ bs) (omega arith))
 
 -- an even number of digits is what the bytes of their frame are written as
-hex-written : (ds : List ℕ) → all isDigit ds ≡ true → length ds % 2 ≡ 0 → (hexOf (frameOf ds) ≡ ds) × Bytes (frameOf ds) × (length ds ≡ 2 * length (frameOf ds))
+hex-written : (ds : List ℕ) → all isDigit ds ≡ true → length ds % 2 ≡ 0 →
+    (hexOf (frameOf ds) ≡ ds) × Bytes (frameOf ds) × (length ds ≡ 2 * length (frameOf ds))
 unfolding hexOf frameOf all
 hex-written [] e h = (refl, tt, refl)
 hex-written (a ∷ []) e h = absurd (not-odd h)
@@ -85,7 +87,7 @@ hex-written (a ∷ b ∷ ds) e h =
     let low : (16 * digitOf a + digitOf b) % 16 ≡ digitOf b = omega arith in
     (rw (high, low, x .1, y .1, r .0), (omega arith, r .1), omega arith)
 
--- CHECK BYTES: the sum's law tells the last byte
+-- CHECK BYTES
 sum-last : (bs : List ℕ) (x : ℕ) → sum (bs ++ (x ∷ [])) ≡ sum bs + x
 unfolding sum
 sum-last [] x = omega arith
@@ -95,6 +97,10 @@ bytes-last : (bs : List ℕ) (x : ℕ) → Bytes bs → x < 256 → Bytes (bs ++
 bytes-last [] x h g = (g, tt)
 bytes-last (b ∷ bs) x h g = (h .0, bytes-last bs x (h .1) g)
 
+checked-bytes : (bs : List ℕ) → Bytes bs → Bytes (checked bs)
+checked-bytes bs h = bytes-last bs ((256 - sum bs % 256) % 256) h (omega arith)
+
+-- the sum tells the last byte
 check-told : (bs : List ℕ) (x : ℕ) → x < 256 → sum (bs ++ (x ∷ [])) % 256 ≡ 0 → bs ++ (x ∷ []) ≡ checked bs
 check-told bs x h e = let q = sum-last bs x in ap (λ (y : ℕ). bs ++ (y ∷ [])) (omega arith)
 
@@ -115,25 +121,31 @@ lines-text (c ∷ cs) = go (eqb c lineFeed) refl (lines-text cs)
     with-byte [] = refl
     with-byte (l ∷ ls) = refl
 
-    go : (b : Bool) → eqb c lineFeed ≡ b → flatMap lineText (linesOf cs) ≡ cs → flatMap lineText (cond b (line [] true ∷ linesOf cs) (withByte c (linesOf cs))) ≡ c ∷ cs
+    go : (b : Bool) → eqb c lineFeed ≡ b → flatMap lineText (linesOf cs) ≡ cs →
+        flatMap lineText (cond b (line [] true ∷ linesOf cs) (withByte c (linesOf cs))) ≡ c ∷ cs
     go true e r = rw (eqb-true c lineFeed e, r)
     go false e r = with-byte (linesOf cs) ∙ ap (λ (x : List ℕ). c ∷ x) r
 
+-- digits and a line feed are one ended line
 lines-cons : (ds t : List ℕ) → all isDigit ds ≡ true → linesOf (ds ++ (lineFeed ∷ t)) ≡ line ds true ∷ linesOf t
 unfolding linesOf withByte all
 lines-cons [] t e = refl
 lines-cons (d ∷ ds) t e = rw (digit-written d (and-fst _ _ e) .2, lines-cons ds t (and-snd (isDigit d) _ e))
 
-checked-bytes : (bs : List ℕ) → Bytes bs → Bytes (checked bs)
-checked-bytes bs h = bytes-last bs ((256 - sum bs % 256) % 256) h (omega arith)
-
+-- and so is a written frame, from which its bytes are read back
 frame-lines : (bs t : List ℕ) → Bytes bs → linesOf (frameText bs ++ t) ≡ writtenLine bs ∷ linesOf t
 unfolding frameText
-frame-lines bs t h =
-    ap linesOf (append-assoc (hexOf (checked bs)) (lineFeed ∷ []) t) ∙ lines-cons (hexOf (checked bs)) t (hex-digits (checked bs) (checked-bytes bs h))
+frame-lines bs t h = rw append-assoc (lines-cons (hexOf (checked bs)) t (hex-digits (checked bs) (checked-bytes bs h)))
 
 written-frame : (bs : List ℕ) → Bytes bs → frameOf (writtenLine bs .digits) ≡ checked bs
 written-frame bs h = frame-read (checked bs) (checked-bytes bs h)
+
+-- the frames of a text's lines
+abbrev pub framesOf : (text : List ℕ) → List (List ℕ)
+framesOf t = map (λ (l : Line). frameOf (l .digits)) (linesOf t)
+
+pub frames-cons : (bs t : List ℕ) → Bytes bs → framesOf (frameText bs ++ t) ≡ checked bs ∷ framesOf t
+frames-cons bs t h = rw (frame-lines bs t h, written-frame bs h)
 
 pub frame-length : (bs : List ℕ) → length (frameText bs) ≡ 2 * length bs + 3
 unfolding frameText
@@ -179,20 +191,29 @@ module _ {S : Type 0} (r : Reader S) where
             content = rw (written-frame bs h) e;
           }
 
+  -- GOOD LINES are written frames
+  good-hex : (s : S) (l : Line) → Good r s l →
+      (hexOf (frameOf (l .digits)) ≡ l .digits) × Bytes (frameOf (l .digits)) × (length (l .digits) ≡ 2 * length (frameOf (l .digits)))
+  unfolding shapeFits
+  good-hex s l g = hex-written (l .digits) (search (and-fst, and-snd, g .shape)) (eqb-true (length (l .digits) % 2) 0 (search (and-fst, and-snd, g .shape)))
+
+  pub good-bytes : (s : S) (l : Line) → Good r s l → (i : ℕ) → byteAt (frameOf (l .digits)) i < 256
+  good-bytes s l g i = byte-small (frameOf (l .digits)) i (good-hex s l g .1)
+
   -- a good line of a kind with 2n + 2 digits is the written frame of its first n bytes
-  pub good-written : (s : S) (l : Line) (n : ℕ) → Good r s l → digitsFor (r .text) (kindOf (frameOf (l .digits))) ≡ 2 * n + 2 →
-      (lineText l ≡ frameText (map (byteAt (frameOf (l .digits))) (below n))) × ((i : ℕ) → byteAt (frameOf (l .digits)) i < 256)
+  pub good-text : (s : S) (l : Line) (n : ℕ) → Good r s l → digitsFor (r .text) (kindOf (frameOf (l .digits))) ≡ 2 * n + 2 →
+      lineText l ≡ frameText (map (byteAt (frameOf (l .digits))) (below n))
   unfolding shapeFits sumFits kindFits frameText
-  good-written s l n g k = (text, λ i. byte-small f i (hex .1))
+  good-text s l n g k = rw ended (ap (λ (ds : List ℕ). ds ++ (lineFeed ∷ [])) (sym (hex .0) ∙ ap hexOf written))
     where
       f : List ℕ
       f = frameOf (l .digits)
 
-      hex : (hexOf f ≡ l .digits) × Bytes f × (length (l .digits) ≡ 2 * length f)
-      hex = let shape = g .shape in hex-written (l .digits) (search (and-fst, and-snd)) (eqb-true (length (l .digits) % 2) 0 (search (and-fst, and-snd)))
-
       ended : l .isEnded ≡ true
-      ended = let shape = g .shape in search (and-fst, and-snd)
+      ended = search (and-fst, and-snd, g .shape)
+
+      hex : (hexOf f ≡ l .digits) × Bytes f × (length (l .digits) ≡ 2 * length f)
+      hex = good-hex s l g
 
       long : length f ≡ suc n
       long = let e = eqb-true (length (l .digits)) (digitsFor (r .text) (kindOf f)) (g .kind) in omega (arith, hex .2)
@@ -200,13 +221,7 @@ module _ {S : Type 0} (r : Reader S) where
       whole : take n f ++ (byteAt f n ∷ []) ≡ f
       whole = sym (take-suc f n 0 (omega (arith, long))) ∙ take-all (suc n) f (omega (arith, long))
 
-      bytes : List ℕ
-      bytes = map (byteAt f) (below n)
-
-      written : f ≡ checked bytes
+      written : f ≡ checked (map (byteAt f) (below n))
       written =
-          sym whole ∙ check-told (take n f) (byteAt f n) (byte-small f n (hex .1)) (rw whole (eqb-true _ 0 (g .sum))) ∙
+          sym whole ∙ check-told (take n f) (byteAt f n) (good-bytes s l g n) (rw whole (eqb-true _ 0 (g .sum))) ∙
           ap checked (take-bytes n 0 f (omega (arith, long)))
-
-      text : lineText l ≡ frameText bytes
-      text = rw ended (ap (λ (ds : List ℕ). ds ++ (lineFeed ∷ [])) (sym (hex .0) ∙ ap hexOf written))
