@@ -14,10 +14,10 @@ use borrow.Author.Tests.{eq-eqb, ne-eqb, eqb-true, lt-ltb}
 use Rattle.rules.specs.Lists.{among, countOf, ahead}
 use Rattle.rules.specs.Catalogue.{Catalogue, needAt, isOf, placesOf, WellFormed}
 use Rattle.rules.specs.Selection.{Selection, chosenAt, withChoice, nothing, rootOnly, isValid, nextModules, Choice, choice, orderFrom, orderOf}
-use Rattle.rules.specs.Search.{Tries, IsTries, barring, Searched, searched, trialBy, andThen, tryEach, searchFrom, isAheadBy, Keeps, Refuted, CertifiedFrom}
+use Rattle.rules.specs.Search.{Tries, IsTries, barring, Searched, searched, trialBy, andThen, tryEach, searchFrom, isAheadBy, Keeps, Refuted, CertifiedFrom, Certified}
 use Rattle.rules.proofs.Lists.{and-both, mem-among, same-or-not, one-ahead, ahead-mem, rest-mem}
-use Rattle.rules.proofs.Selections.{suc-not-zero, chosen-lt, chosen-new, chosen-old, mem-places, Next, next-first, Valid, valid-parts, parts-valid}
-use Rattle.rules.proofs.Partials.{root-chosen, root-only, root-place, root-fits, root-partial, unset-most, Partial, choice-keeps, choice-partial, barred-refuted, whole-only}
+use Rattle.rules.proofs.Selections.{suc-not-zero, chosen-lt, chosen-new, chosen-old, absent-or-at, mem-places, Next, next-first, Valid, valid-parts, parts-valid}
+use Rattle.rules.proofs.Partials.{root-chosen, root-only, start-unset, root-place, root-fits, root-partial, unset-most, Partial, choice-keeps, choice-partial, barred-refuted, whole-only}
 use Rattle.rules.proofs.Searches.{next-cases, search-done, search-next, certified-done, certified-next, next-certified, tried, try-of, fewer, valid-at, keeps-at, unbarred, Outcome, all-set, search-outcome}
 
 -- what a trial finds goes on to the next place or ends it
@@ -138,7 +138,7 @@ module _ (h : (owner ours theirs : ℕ) → Bool) (xs ys : List Choice) (m i j :
 
 module _ (c : Catalogue) (t : Tries) (w : WellFormed c) (τ : IsTries c t) (h : (owner ours theirs : ℕ) → Bool) where
   -- standing ahead in the tries is standing better
-  abbrev Better : Type 0
+  abbrev pub Better : Type 0
   Better =
       (m x y : ℕ) → m < c .modules → isOf c m x ≡ true → isOf c m y ≡ true → Mem x (ahead (t m) y) → h m x y ≡ true
 
@@ -203,10 +203,10 @@ module _ (c : Catalogue) (t : Tries) (w : WellFormed c) (τ : IsTries c t) (h : 
               (⊎-elim (λ a. a) (λ a. absurd (behind a)) (one-ahead (tried c t τ m _ (first .fits) mine) (tried c t τ m _ (first .fits) other) q)))
 
 -- EVERY SELECTED MODULE once: what follows in the order are the modules that are selected and not yet set
-abbrev owners : List Choice → List ℕ
+abbrev pub owners : List Choice → List ℕ
 owners xs = map (λ (x : Choice). x .owner) xs
 
-abbrev isSet : (state : ℕ) → ℕ
+abbrev pub isSet : (state : ℕ) → ℕ
 isSet x = cond (eqb x 0) 0 1
 
 set-suc : {x i : ℕ} → x ≡ suc i → isSet x ≡ 1
@@ -276,3 +276,31 @@ module _ (c : Catalogue) (w : WellFormed c) where
     pub start-order : orderOf c s ≡ choice 0 (suc (getD (placesOf c 0) 0 0)) ∷ orderFrom (c .modules) c s (rootOnly c)
     unfolding orderOf
     start-order = rw root-state
+
+pub order-whole : (c : Catalogue) (w : WellFormed c) (s : Selection) (m : ℕ) → Valid c s → countOf m (owners (orderOf c s)) ≡ isSet (chosenAt s m)
+unfolding countOf
+order-whole c w s m v = rw (start-order c w s v) (⊎-elim root other (same-or-not m 0))
+  where
+    rest : List Choice
+    rest = orderFrom (c .modules) c s (rootOnly c)
+
+    counted : countOf m (owners rest) + isSet (chosenAt (rootOnly c) m) ≡ isSet (chosenAt s m)
+    counted = order-rest c w (c .modules) s (rootOnly c) m (root-partial c w) (start-fits c w) v (start-kept c w s v)
+
+    root : m ≡ 0 → cond (eqb m 0) (suc (countOf m (owners rest))) (countOf m (owners rest)) ≡ isSet (chosenAt s m)
+    root e =
+        let one : isSet (chosenAt (rootOnly c) m) ≡ 1 = rw e (set-suc (root-chosen c w)) in
+        rw (eq-eqb m 0 e) (omega (arith, counted))
+
+    other : m ≢ 0 → cond (eqb m 0) (suc (countOf m (owners rest))) (countOf m (owners rest)) ≡ isSet (chosenAt s m)
+    other n =
+        let unset : isSet (chosenAt (rootOnly c) m) ≡ 0 = rw (start-unset c w m n) in
+        rw (ne-eqb m 0 n) (omega (arith, counted))
+
+-- a valid and certified selection stands ahead of every other valid one, from the root on
+pub certified-best : (c : Catalogue) (t : Tries) (w : WellFormed c) (τ : IsTries c t) (h : (owner ours theirs : ℕ) → Bool) → Better c t w τ h → (s o : Selection) →
+    Valid c s → Valid c o → s ≢ o → Certified c t s → isAheadBy h (orderOf c s) (orderOf c o) ≡ true
+certified-best c t w τ h b s o v u d x =
+    rw (start-order c w s v, start-order c w o u)
+    (ahead-same h _ _ 0 _ _ refl
+    (certified-ahead c t w τ h b (c .modules) s o (rootOnly c) (root-partial c w) (start-fits c w) v u (start-kept c w s v) (start-kept c w o u) d x))

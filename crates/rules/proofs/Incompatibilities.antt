@@ -18,7 +18,7 @@ use Rattle.rules.proofs.Lists.{and-fst, and-snd, and-both, or-cases, or
 use Rattle.rules.proofs.Selections.{absent-or-at, mem-places, places-mem, mem-asked, Valid}
 
 -- no valid selection has every module inside the sets
-pub Holds : Catalogue → Incompatibility → Type 0
+abbrev pub Holds : Catalogue → Incompatibility → Type 0
 Holds c f = (o : Selection) → Valid c o → isInside c f o ≡ true → ⊥
 
 -- what a need line's sets hold: the needing module's, the needed one's, any other's
@@ -36,7 +36,7 @@ module _ (c : Catalogue) (k : ℕ) where
   need-other m x n e = rw (ne-eqb m _ n, ne-eqb m (needAt c k .target) e)
 
   pub need-holds : WellFormed c → k < length (c .needs) → Holds c (needLine c k)
-  unfolding Holds isInside
+  unfolding isInside
   need-holds w l o v i = not-both outside (ap not met)
     where
       inside : (m : ℕ) → m < c .modules → needLine c k m (chosenAt o m) ≡ true
@@ -64,7 +64,7 @@ unfolding resolved
 resolved-off m f g k x e = rw (ne-eqb k m e)
 
 pub resolved-holds : (c : Catalogue) (m : ℕ) (f g : Incompatibility) → Holds c f → Holds c g → Holds c (resolved m f g)
-unfolding Holds isInside
+unfolding isInside
 resolved-holds c m f g p q o v i = ⊎-elim one other (true-or-false (f m (chosenAt o m)))
   where
     inside : (k : ℕ) → k < c .modules → resolved m f g k (chosenAt o k) ≡ true
@@ -141,7 +141,7 @@ state-full c f m z h = and-both z (mem-all (λ (i : ℕ). f m (suc i)) (placesOf
 
 -- an incompatibility that refutes and is true leaves no valid selection
 pub refuting-none : (c : Catalogue) (f : Incompatibility) → refutes c f ≡ true → Holds c f → (o : Selection) → Valid c o → ⊥
-unfolding refutes Holds isInside
+unfolding refutes isInside
 refuting-none c f r h o v = h o v (below-all (λ (m : ℕ). f m (chosenAt o m)) (c .modules) (λ m l. inside m l (or-cases (eqb m 0) _ (full m l))))
   where
     root : (i : ℕ) → isOf c 0 i ≡ true → f 0 (suc i) ≡ true

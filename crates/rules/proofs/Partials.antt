@@ -134,6 +134,10 @@ unset-nothing zero m = refl
 unset-nothing (suc n) zero = refl
 unset-nothing (suc n) (suc m) = unset-nothing n m
 
+-- no module but the root is set at the start
+pub start-unset : (c : Catalogue) → WellFormed c → (m : ℕ) → m ≢ 0 → chosenAt (rootOnly c) m ≡ 0
+start-unset c w m n = chosen-old (nothing c) 0 (getD (placesOf c 0) 0 0) m n ∙ unset-nothing (c .modules) m
+
 -- the only choice at the start is the root's
 pub root-only : (c : Catalogue) → WellFormed c → (m i : ℕ) → chosenAt (rootOnly c) m ≡ suc i → (m ≡ 0) × (i ≡ getD (placesOf c 0) 0 0)
 root-only c w m i e = ⊎-elim at-root elsewhere (same-or-not m 0)
@@ -146,7 +150,7 @@ root-only c w m i e = ⊎-elim at-root elsewhere (same-or-not m 0)
 
     elsewhere : m ≢ 0 → (m ≡ 0) × (i ≡ getD (placesOf c 0) 0 0)
     elsewhere n =
-        absurd (suc-not-zero e (chosen-old (nothing c) 0 (getD (placesOf c 0) 0 0) m n ∙ unset-nothing (c .modules) m))
+        absurd (suc-not-zero e (start-unset c w m n))
 
 pub root-partial : (c : Catalogue) → WellFormed c → Partial c (rootOnly c)
 root-partial c w =

@@ -3,7 +3,7 @@
 use mathlib.Core.Path.{_≡_, refl, sym, _∙_, ap, subst, subst₂}
 use mathlib.Core.Logic.{_⊎_, inl, inr, ⊎-elim, _≢_}
 use mathlib.Core.Bool.{Bool, true, false, _&&_, _||_, not, cond, false≢true}
-use mathlib.Core.List.{List, [], _∷_, _++_, List·Memᴰ as Mem, List·Memᴰ·head as here, List·Memᴰ·tail as there, List·Memᴰ·not-nil as not-nil}
+use mathlib.Core.List.{List, [], _∷_, _++_, List·Memᴰ as Mem, List·Memᴰ·head as here, List·Memᴰ·tail as there, List·Memᴰ·not-nil as not-nil, List·Memᴰ·eq-of-singleton}
 use mathlib.Core.Option.{Option, none, some, Option·none-ne-some, Option·getD}
 use Prim.Native.Nat.{ℕ, zero, suc, _+_, _*_, _-_, _≤_, _<_}
 use native.Mathlib.Omega.{arith}
@@ -18,7 +18,7 @@ use Rattle.rules.specs.Search.{Tries, IsTries, leavesOut, bars, barring,
 use Rattle.rules.specs.Sheet.{Incompatibility, noIncompatibility, isFull, blocksAt, blocks, needLine, resolved, refutes, Entry, cites, resolves, lineOf, linesFrom, entryFits, entriesFit, trialLines, triesLines, asking, searchLines}
 use Rattle.rules.proofs.Lists.{and-both, or-fst, or-snd, not-both, true-or-false, mem-all, any-mem, first-mem, first-none, below-all, same-or-not, longer}
 use Rattle.rules.proofs.Selections.{suc-not-zero, chosen-lt, chosen-new, chosen-old, absent-or-at, of-parts, places-mem, Asked, asked-mem, Next, next-first}
-use Rattle.rules.proofs.Partials.{leavesOut-parts, bars-cases, root-chosen, root-place, root-only, root-fits, Partial, choice-cases, choice-keeps, choice-partial}
+use Rattle.rules.proofs.Partials.{leavesOut-parts, bars-cases, root-chosen, root-place, root-only, root-fits, start-unset, Partial, choice-cases, choice-keeps, choice-partial}
 use Rattle.rules.proofs.Searches.{next-cases, search-done, search-next, tried, try-of, fewer, all-set}
 use Rattle.rules.proofs.Incompatibilities.{need-needy, need-target, need-other, resolved-at, resolved-off, lines-length, lines-earlier, lines-append, fit-append, state-full, full-state}
 
@@ -415,3 +415,21 @@ module _ (c : Catalogue) (t : Tries) (w : WellFormed c) (τ : IsTries c t) where
               one-more-line
               (tries-derive c p m (let f = first .fits in let l = g .size in omega arith) (first .fits) (first .unset) (searchFrom n c t) (searchLines n c t) (t m) fails found (length fs) gs one-more-line
               (subst (λ (f : Incompatibility). Pending c f p m (t m)) (sym (getD-append-seam fs _ [] noIncompatibility)) (begun .1)))
+
+-- what blocks the start refutes
+pub blocks-refutes : (c : Catalogue) (w : WellFormed c) (f : Incompatibility) → Blocks c f (rootOnly c) → refutes c f ≡ true
+unfolding refutes
+blocks-refutes c w f b =
+    and-both (mem-all (λ (i : ℕ). f 0 (suc i)) (placesOf c 0) (λ i x. root i (subst (λ (l : List ℕ). Mem i l) (w .root .1) x)))
+    (below-all (λ (m : ℕ). eqb m 0 || isFull c f m) (c .modules)
+    (λ m h. ⊎-elim (λ e. or-fst (isFull c f m) (eq-eqb m 0 e)) (λ n. or-snd (eqb m 0) (full m h n)) (same-or-not m 0)))
+  where
+    root : (i : ℕ) → Mem i (w .root .0 ∷ []) → f 0 (suc i) ≡ true
+    root i x =
+        let same : getD (placesOf c 0) 0 0 ≡ i =
+        ap (λ (l : List ℕ). getD l 0 0) (w .root .1) ∙ sym (List·Memᴰ·eq-of-singleton x) in
+        subst (λ (j : ℕ). f 0 (suc j) ≡ true) same
+        (subst (λ (y : ℕ). blocksAt c f 0 y ≡ true) (root-chosen c w) (b 0 (root-fits c w)))
+
+    full : (m : ℕ) → m < c .modules → m ≢ 0 → isFull c f m ≡ true
+    full m h n = subst (λ (y : ℕ). blocksAt c f m y ≡ true) (start-unset c w m n) (b m h)

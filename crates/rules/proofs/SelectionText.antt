@@ -1,0 +1,160 @@
+-- The text of a valid selection tells the selection: a version's frame names its module and its value, and a module has no two versions of one
+-- value. Assumes nothing.
+use mathlib.Core.Path.{_≡_, refl, sym, _∙_, ap}
+use mathlib.Core.Logic.{⊎-elim}
+use mathlib.Core.Bool.{true}
+use mathlib.Core.List.{List, [], _∷_, _++_, flatMap, append-cancel-right, List·Memᴰ as Mem, List·Memᴰ·head as here, List·Memᴰ·tail as there, List·Memᴰ·eq-of-singleton}
+use Prim.Native.Nat.{ℕ, zero, suc, _+_, _*_, _-_, _/_, _%_, _<_}
+use native.Mathlib.Omega.{arith}
+use native.Mathlib.Nat.{not-suc-le-zero}
+use lib.Dec.{ltb, eqb}
+use borrow.Author.Tests.{ltb-true, eqb-true, lt-ltb}
+use lib.ListN.{length, drop}
+use lib.Seq.{drop-at, ext-getD}
+use Rattle.rules.specs.Lists.{below}
+use Rattle.rules.specs.Lines.{linesOf}
+use Rattle.rules.specs.Frames.{byteAt, versionAt, checked, frameText, versionBytes}
+use Rattle.rules.specs.Catalogue.{Catalogue, Version, versionAtPlace, isOf, isOlder, WellFormed, Carried}
+use Rattle.rules.specs.Selection.{Selection, chosenAt, isState, isValid, settled, selectedLine, selectionText}
+use Rattle.rules.specs.Promises.{TextTells}
+use Rattle.rules.proofs.Lists.{and-fst, and-snd, or-cases, mem-keep, keep-mem, mem-flatMap, flatMap-mem, mem-below, below-mem, all-below}
+use Rattle.rules.proofs.Written.{framesOf, frames-cons, frame-length}
+
+version-read : (v : ℕ) → v / 65536 * 65536 + v / 256 % 256 * 256 + v % 256 ≡ v
+version-read v = omega arith
+
+-- a version's frame names its module and its value
+frame-names : (m k u v : ℕ) → checked (18 ∷ m ∷ versionBytes u) ≡ checked (18 ∷ k ∷ versionBytes v) → (m ≡ k) × (u ≡ v)
+frame-names m k u v e =
+    (ap (λ (f : List ℕ). byteAt f 1) e, sym (version-read u) ∙ ap (λ (f : List ℕ). versionAt f 2) e ∙ version-read v)
+
+-- no version is older than one with its module and its value
+not-older : (u v : Version) → u .owner ≡ v .owner → u .value ≡ v .value → isOlder u v ≡ true → ⊥
+unfolding isOlder
+not-older u v p q e = ⊎-elim
+    (λ h. let less = ltb-true (u .owner) (v .owner) h in omega arith)
+    (λ h. let less = ltb-true (u .value) (v .value) (and-snd (eqb (u .owner) (v .owner)) _ h) in omega arith)
+    (or-cases (ltb (u .owner) (v .owner)) _ e)
+
+module _ (c : Catalogue) (w : WellFormed c) where
+  not-later : (m i j : ℕ) → isOf c m i ≡ true → isOf c m j ≡ true → versionAtPlace c i .value ≡ versionAtPlace c j .value → i < j → ⊥
+  unfolding isOf
+  not-later m i j p q e h = not-older (versionAtPlace c i) (versionAtPlace c j) (one ∙ sym other) e (w .rising i j h inside)
+    where
+      one : versionAtPlace c i .owner ≡ m
+      one = eqb-true _ m (and-snd (ltb i (length (c .versions))) _ p)
+
+      other : versionAtPlace c j .owner ≡ m
+      other = eqb-true _ m (and-snd (ltb j (length (c .versions))) _ q)
+
+      inside : j < length (c .versions)
+      inside = ltb-true j _ (and-fst _ _ q)
+
+  -- versions of one module with one value stand at one place
+  same-place : (m i j : ℕ) → isOf c m i ≡ true → isOf c m j ≡ true → versionAtPlace c i .value ≡ versionAtPlace c j .value → i ≡ j
+  same-place m i j p q e =
+      let below : ¬ (i < j) = not-later m i j p q e in
+      let above : ¬ (j < i) = not-later m j i q p (sym e) in
+      omega arith
+
+module _ (c : Catalogue) where
+  abbrev valueAt : Selection → (owner : ℕ) → ℕ
+  valueAt s m = versionAtPlace c (chosenAt s m - 1) .value
+
+  abbrev selectedBytes : Selection → (owner : ℕ) → List ℕ
+  selectedBytes s m = 18 ∷ m ∷ versionBytes (valueAt s m)
+
+  abbrev selectedLines : Selection → List ℕ
+  selectedLines s = flatMap (selectedLine c s) (settled c s)
+
+  -- the lines between the head and the end, which are of one length in every text
+  lines-told : (s o : Selection) → selectionText c s ≡ selectionText c o → selectedLines s ≡ selectedLines o
+  unfolding selectionText
+  lines-told s o e = sym (after s) ∙ ap (drop 7) same ∙ after o
+    where
+      front : Selection → List ℕ
+      front x = frameText (17 ∷ length (settled c x) ∷ []) ++ selectedLines x
+
+      same : front s ≡ front o
+      same = append-cancel-right (front s) (front o) (frameText (20 ∷ [])) e
+
+      after : (x : Selection) → drop 7 (front x) ≡ selectedLines x
+      after x = drop-at (frameText (17 ∷ length (settled c x) ∷ [])) (selectedLines x) 7 (frame-length (17 ∷ length (settled c x) ∷ []))
+
+  -- the frames of those lines
+  selected-frames : Carried c → (s : Selection) (ms : List ℕ) → ((m : ℕ) → Mem m ms → m < c .modules) →
+      framesOf (flatMap (selectedLine c s) ms) ≡ flatMap (λ (m : ℕ). checked (selectedBytes s m) ∷ []) ms
+  unfolding flatMap linesOf
+  selected-frames h s [] k = refl
+  selected-frames h s (m ∷ ms) k =
+      frames-cons (selectedBytes s m) (flatMap (selectedLine c s) ms) (omega (arith, k m (here refl), h .modules, h .values (chosenAt s m - 1))) ∙
+      ap (λ (fs : List (List ℕ)). checked (selectedBytes s m) ∷ fs) (selected-frames h s ms (λ x q. k x (there q)))
+
+  -- a version that one text names the other names too
+  value-told : Carried c → (s o : Selection) → selectionText c s ≡ selectionText c o → (m : ℕ) → Mem m (settled c s) →
+      Mem m (settled c o) × (valueAt s m ≡ valueAt o m)
+  value-told h s o e m q = named (found .0) (found .1 .0) (List·Memᴰ·eq-of-singleton (found .1 .1))
+    where
+      frameIn : Selection → ℕ → List (List ℕ)
+      frameIn x k = checked (selectedBytes x k) ∷ []
+
+      frames : (x : Selection) → framesOf (selectedLines x) ≡ flatMap (frameIn x) (settled c x)
+      frames x = selected-frames h x (settled c x) (λ k r. below-mem (keep-mem _ k (below (c .modules)) r .0))
+
+      same-frames : flatMap (frameIn s) (settled c s) ≡ flatMap (frameIn o) (settled c o)
+      same-frames = sym (frames s) ∙ ap framesOf (lines-told s o e) ∙ frames o
+
+      found : (k : ℕ) × (Mem k (settled c o) × Mem (checked (selectedBytes s m)) (frameIn o k))
+      found = flatMap-mem (frameIn o) (settled c o) (rw same-frames at (mem-flatMap (frameIn s) q (here refl)))
+
+      named : (k : ℕ) → Mem k (settled c o) → checked (selectedBytes s m) ≡ checked (selectedBytes o k) →
+          Mem m (settled c o) × (valueAt s m ≡ valueAt o m)
+      named k r f =
+          let names = frame-names m k (valueAt s m) (valueAt o k) f in
+          (rw (names .0) r, names .1 ∙ ap (valueAt o) (sym (names .0)))
+
+  valid-length : (s : Selection) → isValid c s ≡ true → length s ≡ c .modules
+  unfolding isValid
+  valid-length s p = eqb-true (length s) (c .modules) (search (and-fst, and-snd))
+
+  valid-place : (s : Selection) → isValid c s ≡ true → (m i : ℕ) → m < c .modules → chosenAt s m ≡ suc i → isOf c m i ≡ true
+  unfolding isValid
+  valid-place s p m i l k = rw k at (all-below (λ (x : ℕ). isState c x (chosenAt s x)) (search (and-fst, and-snd)) l)
+
+  -- what one chooses the other chooses too
+  choice-told : WellFormed c → Carried c → (s o : Selection) → isValid c s ≡ true → isValid c o ≡ true → selectionText c s ≡ selectionText c o →
+      (m : ℕ) → m < c .modules → (i : ℕ) → chosenAt s m ≡ suc i → chosenAt o m ≡ suc i
+  choice-told w h s o p q e m l i k = go (chosenAt o m) refl
+    where
+      chosen : Mem m (settled c s)
+      chosen = mem-keep _ (mem-below l) (lt-ltb 0 (chosenAt s m) (omega arith))
+
+      told : Mem m (settled c o) × (valueAt s m ≡ valueAt o m)
+      told = value-told h s o e m chosen
+
+      some : 0 < chosenAt o m
+      some = ltb-true 0 (chosenAt o m) (keep-mem _ m (below (c .modules)) (told .0) .1)
+
+      go : (x : ℕ) → chosenAt o m ≡ x → chosenAt o m ≡ suc i
+      go zero r = absurd (not-suc-le-zero (rw r at some))
+      go (suc j) r = r ∙ ap suc (sym (same-place c w m i j (valid-place s p m i l k) (valid-place o q m j l r) values))
+        where
+          values : versionAtPlace c i .value ≡ versionAtPlace c j .value
+          values = ap (λ (x : ℕ). versionAtPlace c x .value) (omega arith) ∙ told .1 ∙ ap (λ (x : ℕ). versionAtPlace c x .value) (omega arith)
+
+-- two states are the same if what is chosen in either is chosen in both
+same-state : (x y : ℕ) → ((i : ℕ) → x ≡ suc i → y ≡ suc i) → ((i : ℕ) → y ≡ suc i → x ≡ suc i) → x ≡ y
+same-state zero zero f g = refl
+same-state zero (suc j) f g = g j refl
+same-state (suc i) y f g = sym (f i refl)
+
+pub text-tells : TextTells
+text-tells c s o w h p q e = ext-getD 0 s o (long ∙ sym (valid-length c o q)) same
+  where
+    long : length s ≡ c .modules
+    long = valid-length c s p
+
+    same : (m : ℕ) → m < length s → chosenAt s m ≡ chosenAt o m
+    same m l =
+        let known = rw long at l in
+        same-state (chosenAt s m) (chosenAt o m) (choice-told c w h s o p q e m known) (choice-told c w h o s q p (sym e) m known)
