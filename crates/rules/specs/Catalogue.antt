@@ -63,8 +63,11 @@ abbrev pub needsOf : Catalogue → (place : ℕ) → List ℕ
 needsOf c i = keep (λ (k : ℕ). eqb (needAt c k .version) i) (below (length (c .needs)))
 
 -- "lowest version included, upper end excluded"
+abbrev pub isWithin : (low high value : ℕ) → Bool
+isWithin a b v = leb a v && ltb v b
+
 unfoldable pub inRange : Catalogue → Need → (place : ℕ) → Bool
-inRange c n i = leb (n .low) (versionAtPlace c i .value) && ltb (versionAtPlace c i .value) (n .high)
+inRange c n i = isWithin (n .low) (n .high) (versionAtPlace c i .value)
 
 -- LIMITS: versions of a module, needs of a version, needs in all, bytes of a text
 pub record Limits : Type 0 where
