@@ -19,32 +19,32 @@ pub fn put(frame: [u8; LONGEST], at: usize, byte: u8) -> [u8; LONGEST]
     next
 }
 
-pub fn byte_in(frame: [u8; LONGEST], at: u8) -> u8
+// A byte of the frame; 0 past the longest frame.
+pub fn byte_in(frame: [u8; LONGEST], at: usize) -> u8
     ensures { λ r. ⌜ r ≡ byteAt frame at ⌝ }
 {
-    let i = at as usize;
-    if i < LONGEST {
-        return frame[i];
+    if at < LONGEST {
+        return frame[at];
     }
     0
 }
 
 // A number of two bytes, the high one first.
 pub fn pair_in(frame: [u8; LONGEST], at: u8) -> u16
-    requires { ⌜ at < 9 ⌝ }
     ensures { λ r. ⌜ r ≡ pairAt frame at ⌝ }
 {
-    let high = byte_in(frame, at) as u16;
-    let low = byte_in(frame, at + 1) as u16;
+    let i = at as usize;
+    let high = byte_in(frame, i) as u16;
+    let low = byte_in(frame, i + 1) as u16;
     high * 256 + low
 }
 
 pub fn version_in(frame: [u8; LONGEST], at: u8) -> Version
-    requires { ⌜ at < 9 ⌝ }
     ensures { λ r. ⌜ r .0 ≡ versionAt frame at ⌝ }
 {
-    let major = byte_in(frame, at) as u32;
-    let minor = byte_in(frame, at + 1) as u32;
-    let patch = byte_in(frame, at + 2) as u32;
+    let i = at as usize;
+    let major = byte_in(frame, i) as u32;
+    let minor = byte_in(frame, i + 1) as u32;
+    let patch = byte_in(frame, i + 2) as u32;
     Version(major * 65536 + minor * 256 + patch)
 }
