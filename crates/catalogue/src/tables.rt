@@ -2,7 +2,9 @@
 ghost use mathlib.Core.Path.{_≡_};
 ghost use lib.ListN.{set};
 use crate::access;
-use crate::limits::{MODULES, NEEDS, VERSIONS};
+use crate::limits::MODULES;
+use crate::limits::NEEDS;
+use crate::limits::VERSIONS;
 
 // A version that is not there.
 pub const UNUSED: u16 = 0;
@@ -23,7 +25,16 @@ pub struct Tables {
 }
 
 // A version more, at place `at`, with its first need `need`; `count` of its module stand before it.
-pub fn keep_version(values: &mut [u32], owners: &mut [u16], starts: &mut [u16], marks: &mut [u16], at: u16, need: u16, owner: u16, value: u32)
+pub fn keep_version(
+    values: &mut [u32],
+    owners: &mut [u16],
+    starts: &mut [u16],
+    marks: &mut [u16],
+    at: u16,
+    need: u16,
+    owner: u16,
+    value: u32,
+)
     ensures values { λ r. ⌜ now (values .exit) ≡ set (now (values .entry)) at value ⌝ }
     ensures owners { λ r. ⌜ now (owners .exit) ≡ set (now (owners .entry)) at owner ⌝ }
     ensures starts { λ r. ⌜ now (starts .exit) ≡ set (now (starts .entry)) at need ⌝ }

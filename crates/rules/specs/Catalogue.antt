@@ -3,15 +3,14 @@ use mathlib.Core.Path.{_≡_}
 use mathlib.Core.Logic.{_≢_}
 use mathlib.Core.Bool.{Bool, true, false, _&&_, _||_, not, cond}
 use mathlib.Core.List.{List, [], _∷_, _++_}
-use Prim.Native.Nat.{ℕ, zero, suc, _+_, _*_, _-_, _≤_, _<_}
+use Prim.Native.Nat.{ℕ, _+_, _*_, _-_, _≤_, _<_}
 use lib.Dec.{ltb, leb, eqb}
 use lib.ListN.{length, getD}
 use Rattle.rules.specs.Lists.{isIn, keep, below}
 use Rattle.rules.specs.Lines.{Fault, orElse, unless}
 use Rattle.rules.specs.Frames.{byteAt, kindOf, versionAt, catalogues, Reader, Read, readText, readOr, faultOf}
 
--- VERSION: its module and its three bytes as one number
-pub record Version : Type 0 where
+pub record Version : Type 0 where  -- VERSION: its module and its three bytes as one number
   pub owner : ℕ
   pub value : ℕ
 
@@ -22,8 +21,7 @@ pub record Need : Type 0 where
   pub low : ℕ
   pub high : ℕ
 
--- CATALOGUE: M, the versions by module and version, the needs by number
-pub record Catalogue : Type 0 where
+pub record Catalogue : Type 0 where  -- CATALOGUE: M, the versions by module and version, the needs by number
   pub modules : ℕ
   pub versions : List Version
   pub needs : List Need
@@ -46,31 +44,25 @@ versionAtPlace c i = getD (c .versions) i noVersion
 abbrev pub needAt : Catalogue → (number : ℕ) → Need
 needAt c k = getD (c .needs) k noNeed
 
--- the module that has need number k
-abbrev pub needyOf : Catalogue → (number : ℕ) → ℕ
+abbrev pub needyOf : Catalogue → (number : ℕ) → ℕ  -- the module that has need number k
 needyOf c k = versionAtPlace c (needAt c k .version) .owner
 
--- the version at this place is one of the module
-unfoldable pub isOf : Catalogue → (owner place : ℕ) → Bool
+unfoldable pub isOf : Catalogue → (owner place : ℕ) → Bool  -- the version at this place is one of the module
 isOf c m i = ltb i (length (c .versions)) && eqb (versionAtPlace c i .owner) m
 
--- the places of a module's versions, oldest first
-abbrev pub placesOf : Catalogue → (owner : ℕ) → List ℕ
+abbrev pub placesOf : Catalogue → (owner : ℕ) → List ℕ  -- the places of a module's versions, oldest first
 placesOf c m = keep (isOf c m) (below (length (c .versions)))
 
--- the numbers of a version's needs
-abbrev pub needsOf : Catalogue → (place : ℕ) → List ℕ
+abbrev pub needsOf : Catalogue → (place : ℕ) → List ℕ  -- the numbers of a version's needs
 needsOf c i = keep (λ (k : ℕ). eqb (needAt c k .version) i) (below (length (c .needs)))
 
--- "lowest version included, upper end excluded"
-abbrev pub isWithin : (low high value : ℕ) → Bool
+abbrev pub isWithin : (low high value : ℕ) → Bool  -- "lowest version included, upper end excluded"
 isWithin a b v = leb a v && ltb v b
 
 unfoldable pub inRange : Catalogue → Need → (place : ℕ) → Bool
 inRange c n i = isWithin (n .low) (n .high) (versionAtPlace c i .value)
 
--- LIMITS: versions of a module, needs of a version, needs in all, bytes of a text
-pub record Limits : Type 0 where
+pub record Limits : Type 0 where  -- LIMITS: versions of a module, needs of a version, needs in all, bytes of a text
   pub ofModule : ℕ
   pub ofVersion : ℕ
   pub inAll : ℕ
@@ -109,69 +101,52 @@ lastVersion c = versionAtPlace c (length (c .versions) - 1)
 abbrev pub versionIn : (frame : List ℕ) → Version
 versionIn f = record { owner = byteAt f 1; value = versionAt f 2 }
 
--- "A caret need ^a.b.c is the range from a.b.c up to, not including, (a+1).0.0"
-abbrev pub highIn : (frame : List ℕ) → ℕ
+abbrev pub highIn : (frame : List ℕ) → ℕ  -- "A caret need ^a.b.c is the range from a.b.c up to, not including, (a+1).0.0"
 highIn f = cond (isCaret f) ((byteAt f 2 + 1) * 65536) (versionAt f 5)
 
--- "A need belongs to the version frame last read"
-abbrev pub needIn : Catalogue → (frame : List ℕ) → Need
-needIn c f =
-    record { version = length (c .versions) - 1; target = byteAt f 1; low = versionAt f 2; high = highIn f }
+abbrev pub needIn : Catalogue → (frame : List ℕ) → Need  -- "A need belongs to the version frame last read"
+needIn c f = record { version = length (c .versions) - 1; target = byteAt f 1; low = versionAt f 2; high = highIn f }
 
 abbrev pub hasVersion : List Version → Bool
 hasVersion [] = false
 hasVersion (x ∷ xs) = true
 
--- "Version frames rise strictly by module, then version"
-unfoldable pub isOlder : (one other : Version) → Bool
+unfoldable pub isOlder : (one other : Version) → Bool  -- "Version frames rise strictly by module, then version"
 isOlder u v = ltb (u .owner) (v .owner) || (eqb (u .owner) (v .owner) && ltb (u .value) (v .value))
 
--- 5: "The head comes first and once, the end last"
-unfoldable pub orderFits : Reading → (frame : List ℕ) → Bool
-orderFits s f =
-    cond (eqb (s .stands) 0) (isHead f)
+unfoldable pub orderFits : Reading → (frame : List ℕ) → Bool  -- 5: "The head comes first and once, the end last"
+orderFits s f = cond (eqb (s .stands) 0) (isHead f)
     (eqb (s .stands) 1 && not (isHead f) &&
     (not (isVersion f) || not (hasVersion (s .sofar .versions)) || isOlder (lastVersion (s .sofar)) (versionIn f)) &&
     (not (isNeed f) || hasVersion (s .sofar .versions)))
 
--- 6
-unfoldable pub contentFits : Catalogue → (frame : List ℕ) → Bool
-contentFits c f =
-    cond (isHead f) (isIn 1 32 (byteAt f 1))
-    (cond (isVersion f)
-    (ltb (byteAt f 1) (c .modules) && not (eqb (byteAt f 2) 255) && not (eqb (byteAt f 3) 255) && not (eqb (byteAt f 4) 255))
-    (cond (isNeed f)
-    (ltb (byteAt f 1) (c .modules) && not (eqb (byteAt f 1) (lastVersion c .owner)) &&
-    cond (isCaret f) (not (eqb (byteAt f 2) 255)) (ltb (versionAt f 2) (versionAt f 5)))
-    true))
+unfoldable pub contentFits : Catalogue → (frame : List ℕ) → Bool  -- 6
+contentFits c f = cond (isHead f) (isIn 1 32 (byteAt f 1))
+    (cond (isVersion f) (ltb (byteAt f 1) (c .modules) && not (eqb (byteAt f 2) 255) && not (eqb (byteAt f 3) 255) && not (eqb (byteAt f 4) 255))
+    (cond (isNeed f) (ltb (byteAt f 1) (c .modules) && not (eqb (byteAt f 1) (lastVersion c .owner)) &&
+    cond (isCaret f) (not (eqb (byteAt f 2) 255)) (ltb (versionAt f 2) (versionAt f 5))) true))
 
 -- 7: "17th version of a module, 17th need of a version, 1,025th need"
 unfoldable pub roomFits : Limits → Catalogue → (frame : List ℕ) → Bool
-roomFits l c f =
-    cond (isVersion f) (ltb (length (placesOf c (byteAt f 1))) (l .ofModule))
+roomFits l c f = cond (isVersion f) (ltb (length (placesOf c (byteAt f 1))) (l .ofModule))
     (cond (isNeed f) (ltb (length (needsOf c (length (c .versions) - 1))) (l .ofVersion) && ltb (length (c .needs)) (l .inAll)) true)
 
 unfoldable pub withFrame : Catalogue → (frame : List ℕ) → Catalogue
-withFrame c f =
-    cond (isHead f) (catalogue (byteAt f 1) [] [])
+withFrame c f = cond (isHead f) (catalogue (byteAt f 1) [] [])
     (cond (isVersion f) (catalogue (c .modules) (c .versions ++ (versionIn f ∷ [])) (c .needs))
     (cond (isNeed f) (catalogue (c .modules) (c .versions) (c .needs ++ (needIn c f ∷ []))) c))
 
--- 8: "root hasn't exactly one version"
-abbrev pub rootFits : Catalogue → Bool
+abbrev pub rootFits : Catalogue → Bool  -- 8: "root hasn't exactly one version"
 rootFits c = eqb (length (placesOf c 0)) 1
 
 abbrev pub catalogueReader : Limits → Reader Reading
-catalogueReader l =
-    record {
-      text = catalogues;
-      fault =
-          λ s f.
-          orElse (unless (orderFits s f) 5) (orElse (unless (contentFits (s .sofar) f) 6) (unless (roomFits l (s .sofar) f) 7));
-      after = λ s f. reading (cond (isEnd f) 2 1) (withFrame (s .sofar) f);
-      isEnded = λ s. eqb (s .stands) 2;
-      last = λ s. unless (rootFits (s .sofar)) 8;
-    }
+catalogueReader l = record {
+  text = catalogues;
+  fault = λ s f. orElse (unless (orderFits s f) 5) (orElse (unless (contentFits (s .sofar) f) 6) (unless (roomFits l (s .sofar) f) 7));
+  after = λ s f. reading (cond (isEnd f) 2 1) (withFrame (s .sofar) f);
+  isEnded = λ s. eqb (s .stands) 2;
+  last = λ s. unless (rootFits (s .sofar)) 8;
+}
 
 abbrev pub readCatalogue : Limits → (text : List ℕ) → Read Reading
 readCatalogue l t = readText (catalogueReader l) (l .bytes) (reading 0 noCatalogue) t
@@ -192,13 +167,11 @@ pub record WellFormed (c : Catalogue) : Type 0 where
   pub ranges : (k : ℕ) → k < length (c .needs) → needAt c k .low < needAt c k .high
   pub root : (i : ℕ) × (placesOf c 0 ≡ i ∷ [])
 
--- what a byte for a module, three for a version and two for a need number can carry
-pub record Carried (c : Catalogue) : Type 0 where
+pub record Carried (c : Catalogue) : Type 0 where  -- what a byte for a module, three for a version and two for a need number can carry
   pub modules : c .modules ≤ 32
   pub values : (i : ℕ) → versionAtPlace c i .value < 16777216
   pub needs : length (c .needs) ≤ 65536
 
--- limits that the frames can carry, with room in a text for the longest sheet
-pub record CarriedLimits (l : Limits) : Type 0 where
+pub record CarriedLimits (l : Limits) : Type 0 where  -- limits that the frames can carry, with room in a text for the longest sheet
   pub needs : l .inAll ≤ 65536
   pub sheets : 7214 ≤ l .bytes

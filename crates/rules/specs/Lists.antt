@@ -16,13 +16,11 @@ unfoldable pub any : {A : Type 0} → (A → Bool) → List A → Bool
 any f [] = false
 any f (x ∷ xs) = f x || any f xs
 
--- the elements that pass a test, in their order
-unfoldable pub keep : {A : Type 0} → (A → Bool) → List A → List A
+unfoldable pub keep : {A : Type 0} → (A → Bool) → List A → List A  -- the elements that pass a test, in their order
 keep f [] = []
 keep f (x ∷ xs) = cond (f x) (x ∷ keep f xs) (keep f xs)
 
--- the first element that passes a test
-unfoldable pub firstOf : {A : Type 0} → (A → Bool) → List A → Option A
+unfoldable pub firstOf : {A : Type 0} → (A → Bool) → List A → Option A  -- the first element that passes a test
 firstOf f [] = none
 firstOf f (x ∷ xs) = cond (f x) (some x) (firstOf f xs)
 
@@ -34,30 +32,26 @@ unfoldable pub among : ℕ → List ℕ → Bool
 among x [] = false
 among x (y ∷ ys) = eqb x y || among x ys
 
--- how often a number stands in a list
-unfoldable pub countOf : ℕ → List ℕ → ℕ
+unfoldable pub countOf : ℕ → List ℕ → ℕ  -- how often a number stands in a list
 countOf x [] = 0
 countOf x (y ∷ ys) = cond (eqb x y) (suc (countOf x ys)) (countOf x ys)
 
--- what stands in a list before the first `x`
-unfoldable pub ahead : List ℕ → (x : ℕ) → List ℕ
+unfoldable pub ahead : List ℕ → (x : ℕ) → List ℕ  -- what stands in a list before the first `x`
 ahead [] x = []
 ahead (y ∷ ys) x = cond (eqb y x) [] (y ∷ ahead ys x)
 
--- 0 to n - 1, rising and falling
 unfoldable pub upFrom : (first count : ℕ) → List ℕ
 upFrom i zero = []
 upFrom i (suc n) = i ∷ upFrom (suc i) n
 
-abbrev pub below : ℕ → List ℕ
+abbrev pub below : ℕ → List ℕ  -- 0 to n - 1, rising
 below n = upFrom 0 n
 
-unfoldable pub downFrom : ℕ → List ℕ
+unfoldable pub downFrom : ℕ → List ℕ  -- 0 to n - 1, falling
 downFrom zero = []
 downFrom (suc n) = n ∷ downFrom n
 
--- two lists of numbers are the same
-unfoldable pub same : List ℕ → List ℕ → Bool
+unfoldable pub same : List ℕ → List ℕ → Bool  -- two lists of numbers are the same
 same [] [] = true
 same [] (y ∷ ys) = false
 same (x ∷ xs) [] = false

@@ -17,69 +17,30 @@ v m a b = record { owner = m; value = a * 65536 + b * 256 }
 abbrev n : (version target low high : ℕ) → Need
 n i m a b = record { version = i; target = m; low = a * 65536; high = b * 65536 }
 
-abbrev pub b1 : Catalogue
-b1 = catalogue 3 (v 0 1 0 ∷ v 1 1 0 ∷ v 2 1 0 ∷ v 2 2 0 ∷ []) (n 0 1 1 2 ∷ n 1 2 1 2 ∷ [])
-
-abbrev pub b2 : Catalogue
-b2 =
-    catalogue 3 (v 0 1 0 ∷ v 1 1 0 ∷ v 1 1 1 ∷ v 2 1 0 ∷ v 2 1 1 ∷ v 2 2 0 ∷ [])
-    (n 0 1 1 2 ∷ n 0 2 1 2 ∷ n 2 2 2 3 ∷ [])
-
-abbrev pub b3 : Catalogue
-b3 =
-    catalogue 3 (v 0 1 0 ∷ v 1 1 0 ∷ v 1 2 0 ∷ v 2 1 0 ∷ []) (n 0 1 1 255 ∷ n 2 2 1 2 ∷ n 3 1 1 2 ∷ [])
-
-abbrev pub b4 : Catalogue
-b4 =
-    catalogue 4 (v 0 1 0 ∷ v 1 1 0 ∷ v 2 2 0 ∷ v 3 1 0 ∷ v 3 3 0 ∷ [])
-    (n 0 1 1 2 ∷ n 0 3 1 2 ∷ n 1 2 2 3 ∷ n 2 3 3 4 ∷ [])
-
-abbrev pub b5 : Catalogue
-b5 =
-    catalogue 3 (v 0 1 0 ∷ v 1 1 0 ∷ v 1 2 0 ∷ v 2 1 0 ∷ v 2 2 0 ∷ [])
-    (n 0 1 1 255 ∷ n 0 2 1 255 ∷ n 2 2 1 2 ∷ [])
-
--- B5 with the root's needs the other way round: modules are settled by lowest number, not in the order they were first needed
-abbrev pub b5-turned : Catalogue
-b5-turned =
-    catalogue 3 (v 0 1 0 ∷ v 1 1 0 ∷ v 1 2 0 ∷ v 2 1 0 ∷ v 2 2 0 ∷ [])
-    (n 0 2 1 255 ∷ n 0 1 1 255 ∷ n 2 2 1 2 ∷ [])
-
-abbrev pub b6 : Catalogue
-b6 = catalogue 1 (v 0 1 0 ∷ []) []
-
-abbrev pub b7 : Catalogue
-b7 = catalogue 2 (v 0 1 0 ∷ []) (n 0 1 0 255 ∷ [])
-
-abbrev pub b8 : Catalogue
-b8 = catalogue 3 (v 0 1 0 ∷ v 1 1 0 ∷ v 2 1 0 ∷ []) (n 0 1 1 2 ∷ n 1 2 1 2 ∷ n 2 1 1 2 ∷ [])
-
-abbrev pub b9 : Catalogue
-b9 = catalogue 3 (v 0 1 0 ∷ v 1 1 0 ∷ v 2 1 0 ∷ []) (n 1 2 1 2 ∷ n 2 1 1 2 ∷ [])
-
-abbrev pub b10 : Catalogue
-b10 = catalogue 2 (v 0 1 0 ∷ v 1 1 0 ∷ v 1 2 0 ∷ []) (n 0 1 1 2 ∷ [])
-
--- the paper's linear error, and the one line that refutes B7
-abbrev pub sheet4 : List Entry
-sheet4 = cites 2 ∷ cites 3 ∷ resolves 0 1 2 ∷ cites 1 ∷ resolves 2 3 3 ∷ cites 0 ∷ resolves 4 5 1 ∷ []
-
-abbrev pub sheet7 : List Entry
-sheet7 = cites 0 ∷ []
-
--- A ROW OF THE TABLE: what a catalogue gives, its W, a sheet that refutes it, a selection that is not valid
+-- A ROW OF THE TABLE: what a catalogue gives; none, with its W and a sheet that refutes it; a W; a selection that is not valid
 pub data Row : Type 0 where
   gives : Catalogue → Selection → Row
-  hasNone : Catalogue → Row
+  hasNone : Catalogue → (trials : ℕ) → List Entry → Row
   takes : Catalogue → (trials : ℕ) → Row
-  isRefutedBy : Catalogue → List Entry → Row
   rejects : Catalogue → Selection → Row
 
+-- B4's sheet is the paper's linear error. B5 stands a second time with the root's needs the other way round: modules are settled by lowest number,
+-- not in the order they were first needed
 unfoldable pub samples : List Row
 samples =
-    gives b1 (1 ∷ 2 ∷ 3 ∷ []) ∷ gives b2 (1 ∷ 2 ∷ 5 ∷ []) ∷ gives b3 (1 ∷ 2 ∷ 0 ∷ []) ∷ hasNone b4 ∷ takes b4 4 ∷ isRefutedBy b4 sheet4 ∷
-    gives b5 (1 ∷ 3 ∷ 4 ∷ []) ∷ gives b5-turned (1 ∷ 3 ∷ 4 ∷ []) ∷ gives b6 (1 ∷ []) ∷ takes b6 0 ∷ hasNone b7 ∷ takes b7 0 ∷
-    isRefutedBy b7 sheet7 ∷ gives b8 (1 ∷ 2 ∷ 3 ∷ []) ∷ gives b9 (1 ∷ 0 ∷ 0 ∷ []) ∷ rejects b9 (1 ∷ 2 ∷ 3 ∷ []) ∷ gives b10 (1 ∷ 2 ∷ []) ∷ []
+    gives (catalogue 3 (v 0 1 0 ∷ v 1 1 0 ∷ v 2 1 0 ∷ v 2 2 0 ∷ []) (n 0 1 1 2 ∷ n 1 2 1 2 ∷ [])) (1 ∷ 2 ∷ 3 ∷ []) ∷  -- B1
+    gives (catalogue 3 (v 0 1 0 ∷ v 1 1 0 ∷ v 1 1 1 ∷ v 2 1 0 ∷ v 2 1 1 ∷ v 2 2 0 ∷ []) (n 0 1 1 2 ∷ n 0 2 1 2 ∷ n 2 2 2 3 ∷ [])) (1 ∷ 2 ∷ 5 ∷ []) ∷  -- B2
+    gives (catalogue 3 (v 0 1 0 ∷ v 1 1 0 ∷ v 1 2 0 ∷ v 2 1 0 ∷ []) (n 0 1 1 255 ∷ n 2 2 1 2 ∷ n 3 1 1 2 ∷ [])) (1 ∷ 2 ∷ 0 ∷ []) ∷  -- B3
+    hasNone (catalogue 4 (v 0 1 0 ∷ v 1 1 0 ∷ v 2 2 0 ∷ v 3 1 0 ∷ v 3 3 0 ∷ []) (n 0 1 1 2 ∷ n 0 3 1 2 ∷ n 1 2 2 3 ∷ n 2 3 3 4 ∷ [])) 4  -- B4
+    (cites 2 ∷ cites 3 ∷ resolves 0 1 2 ∷ cites 1 ∷ resolves 2 3 3 ∷ cites 0 ∷ resolves 4 5 1 ∷ []) ∷
+    gives (catalogue 3 (v 0 1 0 ∷ v 1 1 0 ∷ v 1 2 0 ∷ v 2 1 0 ∷ v 2 2 0 ∷ []) (n 0 1 1 255 ∷ n 0 2 1 255 ∷ n 2 2 1 2 ∷ [])) (1 ∷ 3 ∷ 4 ∷ []) ∷  -- B5
+    gives (catalogue 3 (v 0 1 0 ∷ v 1 1 0 ∷ v 1 2 0 ∷ v 2 1 0 ∷ v 2 2 0 ∷ []) (n 0 2 1 255 ∷ n 0 1 1 255 ∷ n 2 2 1 2 ∷ [])) (1 ∷ 3 ∷ 4 ∷ []) ∷
+    gives (catalogue 1 (v 0 1 0 ∷ []) []) (1 ∷ []) ∷ takes (catalogue 1 (v 0 1 0 ∷ []) []) 0 ∷  -- B6
+    hasNone (catalogue 2 (v 0 1 0 ∷ []) (n 0 1 0 255 ∷ [])) 0 (cites 0 ∷ []) ∷  -- B7
+    gives (catalogue 3 (v 0 1 0 ∷ v 1 1 0 ∷ v 2 1 0 ∷ []) (n 0 1 1 2 ∷ n 1 2 1 2 ∷ n 2 1 1 2 ∷ [])) (1 ∷ 2 ∷ 3 ∷ []) ∷  -- B8
+    gives (catalogue 3 (v 0 1 0 ∷ v 1 1 0 ∷ v 2 1 0 ∷ []) (n 1 2 1 2 ∷ n 2 1 1 2 ∷ [])) (1 ∷ 0 ∷ 0 ∷ []) ∷  -- B9
+    rejects (catalogue 3 (v 0 1 0 ∷ v 1 1 0 ∷ v 2 1 0 ∷ []) (n 1 2 1 2 ∷ n 2 1 1 2 ∷ [])) (1 ∷ 2 ∷ 3 ∷ []) ∷
+    gives (catalogue 2 (v 0 1 0 ∷ v 1 1 0 ∷ v 1 2 0 ∷ []) (n 0 1 1 2 ∷ [])) (1 ∷ 2 ∷ []) ∷ []  -- B10
 
 unfoldable pub isFound : Option Selection → Selection → Bool
 isFound none s = false
@@ -91,11 +52,9 @@ isNone (some r) = false
 
 unfoldable pub rowHolds : Row → Bool
 rowHolds (gives c s) = isFound (best c) s
-rowHolds (hasNone c) = isNone (best c)
+rowHolds (hasNone c w es) = isNone (best c) && eqb (trialsOf c) w && isRefuting c es
 rowHolds (takes c w) = eqb (trialsOf c) w
-rowHolds (isRefutedBy c es) = isRefuting c es
 rowHolds (rejects c s) = not (isValid c s)
 
--- THE CLAIM
-abbrev pub Samples : Type 0
+abbrev pub Samples : Type 0  -- THE CLAIM
 Samples = all rowHolds samples ≡ true
