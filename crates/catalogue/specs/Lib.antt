@@ -1,2 +1,3 @@
 -- What the reader of catalogues owes, over the definitions of the rules.
 pub mod Tables
+pub mod Frame

@@ -4,7 +4,7 @@ ghost use Rattle.rules.specs.Catalogue.{isWithin};
 ghost use Rattle.frames.specs.Numbers.{orderOf};
 
 // A module's number, from 0, the root.
-pub struct ModuleNo(pub u8);
+pub struct ModuleNo(pub u16);
 
 // A version's place: its number among all versions of a catalogue, in which a module's versions stand side by side, oldest first.
 pub struct Place(pub u16);
