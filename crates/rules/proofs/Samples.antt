@@ -9,5 +9,6 @@ use Rattle.rules.specs.Sheet.{needLine, resolved, refutes, linesFrom, en
 use Rattle.rules.specs.Samples.{Samples, samples, isFound, isNone, rowHolds}
 
 pub samples-hold : Samples
-unfolding all any keep firstOf among upFrom downFrom same isOf inRange asked reachedIn isValid nextModules barring trialBy tryEach searchFrom search best trialsOf needLine resolved refutes linesFrom entriesFit isRefuting samples isFound isNone rowHolds flatMap
+unfolding all any keep firstOf among upFrom downFrom same flatMap isOf inRange asked reachedIn isValid nextModules
+    barring trialBy tryEach searchFrom search best trialsOf needLine resolved refutes linesFrom entriesFit isRefuting samples isFound isNone rowHolds
 samples-hold = refl

@@ -31,9 +31,6 @@ abbrev pub blocksAt : Catalogue → Incompatibility → (owner state : ℕ) → 
 blocksAt c f m zero = isFull c f m
 blocksAt c f m (suc i) = f m (suc i)
 
-unfoldable pub blocks : Catalogue → Incompatibility → Selection → Bool
-blocks c f s = all (λ (m : ℕ). blocksAt c f m (chosenAt s m)) (below (c .modules))
-
 -- NEED LINE: "the needing module's set is that one version; the needed module's set is absent and every version outside the range; all others full"
 unfoldable pub needLine : Catalogue → (number : ℕ) → Incompatibility
 needLine c k = λ m x. cond (eqb m (needyOf c k)) (eqb x (suc (needAt c k .version)))
