@@ -11,7 +11,7 @@ use borrow.Author.Tests.{ltb-true, leb-true, eqb-true, eqb-false, ne-eqb}
 use lib.ListN.{length, length-append}
 use Rattle.rules.specs.Lists.{isIn, upFrom, below}
 use Rattle.rules.specs.Lines.{fine, Line, linesOf}
-use Rattle.rules.specs.Frames.{frameOf, byteAt, kindOf, pairAt, kinds, digitsIn, digitsFor, sheets, lineFault, faultOf, checked, frameText}
+use Rattle.rules.specs.Frames.{frameOf, byteAt, kindOf, pairAt, kinds, rowIn, digitsFor, sheets, lineFault, faultOf, checked, frameText}
 use Rattle.rules.specs.Frames.{pairBytes}
 use Rattle.rules.specs.Catalogue.{Catalogue, Carried}
 use Rattle.rules.specs.Sheet.{Entry, cites, resolves, entryFits, entriesFit, refutes, lastLine, mostLines, isRefuting, isSheetHead, isNeedLine}
@@ -86,7 +86,7 @@ module _ (c : Catalogue) where
 
   -- a line of an entry's kind is that entry as written
   entry-line : (s : SheetReading) (l : Line) → Taken s l → isEntry (frameOf (l .digits)) ≡ true → lineText l ≡ entryText (entryIn (frameOf (l .digits)))
-  unfolding kinds digitsIn entryText upFrom
+  unfolding kinds rowIn entryText upFrom
   entry-line s l g e = ⊎-elim cited resolving (entry-kind f e)
     where
       f : List ℕ
@@ -120,7 +120,7 @@ module _ (c : Catalogue) where
 
   -- a run in the body is through the entries that are due and the end
   rest-of-run : {s u : SheetReading} {ls : List Line} → Run (sheetReader c) s ls u → s .stands ≡ 1 → Rest s ls u
-  unfolding kinds digitsIn upFrom flatMap entriesFit sheetOrderFits
+  unfolding kinds rowIn upFrom flatMap entriesFit sheetOrderFits
   rest-of-run (stop {s} e z) h = absurd (false≢true (rw h at e))
   rest-of-run (step {s} {u} {l} {ls} e n) h =
       go (eqb (s .due) 0) refl (rw h at (taken .order))
@@ -164,7 +164,7 @@ module _ (c : Catalogue) where
   -- a run from the start is through the lines of a refuting sheet
   sheet-of-run : {s u : SheetReading} {ls : List Line} → Run (sheetReader c) s ls u → s .stands ≡ 0 →
       (isRefuting c (u .entries) ≡ true) × (flatMap lineText ls ≡ sheetText (u .entries))
-  unfolding kinds digitsIn upFrom flatMap sheetOrderFits sheetContentFits withSheetFrame sheetText isRefuting
+  unfolding kinds rowIn upFrom flatMap sheetOrderFits sheetContentFits withSheetFrame sheetText isRefuting
   sheet-of-run (stop {s} e z) h = absurd (false≢true (rw h at e))
   sheet-of-run (step {s} {u} {l} {ls} e n) h = (and-both (and-both counted fitting) refuting, text)
     where
@@ -215,7 +215,7 @@ module _ (c : Catalogue) where
 
   -- an entry that fits has such a frame
   entry-frame : Carried c → (i : ℕ) → i ≤ mostLines → (e : Entry) → entryFits c i e ≡ true → EntryFrame e
-  unfolding kinds digitsIn
+  unfolding kinds rowIn
   entry-frame h i m (cites k) e =
       let known = ltb-true k (length (c .needs)) e in
       let most = h .needs in
@@ -239,7 +239,7 @@ module _ (c : Catalogue) where
   run-of-entries : Carried c → (all : List Entry) → refutes c (lastLine c all) ≡ true →
       (es before : List Entry) → before ++ es ≡ all → entriesFit c (length before) es ≡ true → length before + length es ≤ mostLines →
       Run (sheetReader c) (sheetReading 1 (length es) before) (linesOf (flatMap entryText es ++ frameText (36 ∷ []))) (sheetReading 2 0 all)
-  unfolding kinds digitsIn flatMap entriesFit linesOf sheetOrderFits sheetContentFits
+  unfolding kinds rowIn flatMap entriesFit linesOf sheetOrderFits sheetContentFits
   run-of-entries h all z [] before p e m =
       rw (← append-nil (frameText (36 ∷ []))) (frame-step (sheetReader c) (36 ∷ []) [] (omega arith) (omega arith) refl refl ended)
     where
@@ -282,7 +282,7 @@ module _ (c : Catalogue) where
   -- the head is the count's frame, and the rest is what it says
   run-of-sheet : Carried c → (es : List Entry) → isRefuting c es ≡ true →
       Run (sheetReader c) (sheetReading 0 0 []) (linesOf (sheetText es)) (sheetReading 2 0 es)
-  unfolding kinds digitsIn isRefuting sheetText sheetOrderFits sheetContentFits withSheetFrame
+  unfolding kinds rowIn isRefuting sheetText sheetOrderFits sheetContentFits withSheetFrame
   run-of-sheet h es e =
       rw append-assoc (frame-step (sheetReader c) bytes rest (omega (arith, few-lines es e)) (omega arith) refl (rw (count, counted)) (rw count entries))
     where

@@ -16,8 +16,8 @@ use Rattle.rules.specs.Lists.{firstOf, countOf}
 use Rattle.rules.specs.Catalogue.{Catalogue, needAt, needyOf, isOf, placesOf, inRange, WellFormed}
 use Rattle.rules.specs.Selection.{Selection, chosenAt, withChoice, rootOnly, asked, isAsked, nextModules}
 use Rattle.rules.specs.Search.{Tries, IsTries, leavesOut, bars, barring, Searched, trialBy, andThen, tryEach, searchFrom}
-use Rattle.rules.specs.Sheet.{Incompatibility, noIncompatibility, isFull, blocksAt, needLine, resolved, refutes, Entry, cites, resolves}
-use Rattle.rules.specs.Sheet.{lineOf, linesFrom, entryFits, entriesFit, trialLines, triesLines, asking, searchLines}
+use Rattle.rules.specs.Sheet.{Incompatibility, noIncompatibility, isFull, blocksAt, needLine, resolved, refutes, Entry, cites, resolves, lineOf}
+use Rattle.rules.specs.Sheet.{linesFrom, entryFits, entriesFit, trialLines, triesLines, asking, searchLines}
 use Rattle.rules.proofs.Lists.{and-both, or-fst, or-snd, not-both, mem-all, any-mem, first-mem, first-none, below-all, same-or-not, longer}
 use Rattle.rules.proofs.Lists.{length-last}
 use Rattle.rules.proofs.Selections.{chosen-new, chosen-old, of-parts, Asked, asked-mem, Next, next-first}

@@ -56,8 +56,11 @@ placesOf c m = keep (isOf c m) (below (length (c .versions)))
 abbrev pub needsOf : Catalogue → (place : ℕ) → List ℕ  -- the numbers of a version's needs
 needsOf c i = keep (λ (k : ℕ). eqb (needAt c k .version) i) (below (length (c .needs)))
 
-unfoldable pub inRange : Catalogue → Need → (place : ℕ) → Bool  -- "lowest version included, upper end excluded"
-inRange c n i = leb (n .low) (versionAtPlace c i .value) && ltb (versionAtPlace c i .value) (n .high)
+abbrev pub isWithin : (low high value : ℕ) → Bool  -- "lowest version included, upper end excluded"
+isWithin a b v = leb a v && ltb v b
+
+unfoldable pub inRange : Catalogue → Need → (place : ℕ) → Bool
+inRange c n i = isWithin (n .low) (n .high) (versionAtPlace c i .value)
 
 pub record Limits : Type 0 where  -- LIMITS: versions of a module, needs of a version, needs in all, bytes of a text
   pub ofModule : ℕ
@@ -123,8 +126,7 @@ contentFits c f = cond (isHead f) (isIn 1 32 (byteAt f 1))
     (cond (isNeed f) (ltb (byteAt f 1) (c .modules) && not (eqb (byteAt f 1) (lastVersion c .owner)) &&
     cond (isCaret f) (not (eqb (byteAt f 2) 255)) (ltb (versionAt f 2) (versionAt f 5))) true))
 
--- 7: "17th version of a module, 17th need of a version, 1,025th need"
-unfoldable pub roomFits : Limits → Catalogue → (frame : List ℕ) → Bool
+unfoldable pub roomFits : Limits → Catalogue → (frame : List ℕ) → Bool  -- 7: "17th version of a module, 17th need of a version, 1,025th need"
 roomFits l c f = cond (isVersion f) (ltb (length (placesOf c (byteAt f 1))) (l .ofModule))
     (cond (isNeed f) (ltb (length (needsOf c (length (c .versions) - 1))) (l .ofVersion) && ltb (length (c .needs)) (l .inAll)) true)
 

@@ -1,5 +1,5 @@
 -- Frames: a line's bytes, the one table of kinds, the loop over lines that all readers share, written frames. Assumes nothing: these are definitions.
-use mathlib.Core.Bool.{Bool, true, false, _&&_, cond}
+use mathlib.Core.Bool.{Bool, _&&_, cond}
 use mathlib.Core.List.{List, [], _∷_, _++_}
 use Prim.Native.Nat.{ℕ, suc, _+_, _*_, _-_, _/_, _%_}
 use lib.Dec.{ltb, leb, eqb}
@@ -30,35 +30,41 @@ pairAt f i = byteAt f i * 256 + byteAt f (i + 1)
 abbrev pub versionAt : (frame : List ℕ) → (place : ℕ) → ℕ  -- a version as one number, "major, minor and patch, compared in that order"
 versionAt f i = byteAt f i * 65536 + byteAt f (i + 1) * 256 + byteAt f (i + 2)
 
-pub data Text : Type 0 where
-  catalogues sheets : Text
+-- THE TABLE OF KINDS of frames: "The length of each kind stands in one table". A text goes by the number that tells which was at fault
+abbrev pub catalogues : ℕ
+catalogues = 1
 
-pub data Kind : Type 0 where  -- THE TABLE OF KINDS: which text has the kind, the kind, and the digits of its lines
-  row : Text → (kind digits : ℕ) → Kind
+abbrev pub sheets : ℕ
+sheets = 2
+
+pub record Kind : Type 0 where
+  pub text : ℕ
+  pub kind : ℕ
+  pub digits : ℕ  -- of its line
+  pub first : ℕ  -- where in the frame its first, second and third field stand; 0 where it has none
+  pub second : ℕ
+  pub third : ℕ
+
+abbrev row : (text kind digits first second third : ℕ) → Kind
+row t k n a b c = record { text = t; kind = k; digits = n; first = a; second = b; third = c }
 
 unfoldable pub kinds : List Kind
-kinds = row catalogues 1 6 ∷ row catalogues 2 12 ∷ row catalogues 3 18 ∷ row catalogues 5 12 ∷ row catalogues 4 4 ∷
-    row sheets 32 8 ∷ row sheets 33 8 ∷ row sheets 34 14 ∷ row sheets 36 4 ∷ []
+kinds = row catalogues 1 6 1 0 0 ∷ row catalogues 2 12 1 2 0 ∷ row catalogues 3 18 1 2 5 ∷ row catalogues 5 12 1 2 0 ∷ row catalogues 4 4 0 0 0 ∷
+    row sheets 32 8 1 0 0 ∷ row sheets 33 8 1 0 0 ∷ row sheets 34 14 1 3 5 ∷ row sheets 36 4 0 0 0 ∷ []
 
-abbrev pub sameText : Text → Text → Bool
-sameText catalogues catalogues = true
-sameText catalogues sheets = false
-sameText sheets catalogues = false
-sameText sheets sheets = true
+unfoldable pub rowIn : List Kind → (text kind : ℕ) → Kind  -- one with no digits for a kind that the text doesn't have
+rowIn [] t k = row t k 0 0 0 0
+rowIn (r ∷ rs) t k = cond (eqb (r .text) t && eqb (r .kind) k) r (rowIn rs t k)
 
-unfoldable pub digitsIn : List Kind → Text → (kind : ℕ) → ℕ  -- the digits of a kind in a text; 0 for a kind that the text doesn't have
-digitsIn [] t k = 0
-digitsIn (row u j n ∷ rs) t k = cond (sameText u t && eqb j k) n (digitsIn rs t k)
-
-abbrev pub digitsFor : Text → (kind : ℕ) → ℕ
-digitsFor t k = digitsIn kinds t k
+abbrev pub digitsFor : (text kind : ℕ) → ℕ
+digitsFor t k = rowIn kinds t k .digits
 
 -- 4: "a kind that this text doesn't have, or a wrong number of digits for it". A good line has 4 digits or more, so 0 is never its number
-unfoldable pub kindFits : Text → Line → Bool
+unfoldable pub kindFits : (text : ℕ) → Line → Bool
 kindFits t l = eqb (length (l .digits)) (digitsFor t (kindOf (frameOf (l .digits))))
 
 pub record Reader (S : Type 0) : Type 0 where  -- A READER OF TEXTS: `S` is what is known after the lines read so far
-  pub text : Text
+  pub text : ℕ
   pub fault : S → (frame : List ℕ) → ℕ  -- 5 or more for a good frame that does not fit
   pub after : S → (frame : List ℕ) → S
   pub isEnded : S → Bool

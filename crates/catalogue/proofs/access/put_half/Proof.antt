@@ -1,0 +1,24 @@
+-- Past the end of a list `set` changes nothing. Assumes nothing.
+use mathlib.Core.Path.{sym}
+use borrow.Author.Needs.{needs}
+use lib.Seq.{set-out}
+use Rattle.catalogue.proofs.access.put_half.Statement.{statement}
+use Rattle.catalogue.proofs.access.put_half.Tie as tie
+
+mul-xs : tie.Need-mul-xs
+mul-xs c = search needs
+
+slice-write-xs : tie.Need-slice-write-xs
+slice-write-xs c = search needs
+
+same-length : tie.Need-same-length
+same-length c = search needs
+
+returns : tie.Need-returns
+returns c = search needs
+
+returns-2 : tie.Need-returns-2
+returns-2 c = sym (set-out (c .before .args .xs .now) _ _ (c .if1 .left))
+
+pub put-half-spec : {M : Type 1} → statement M
+put-half-spec = tie.close (tie.spec mul-xs slice-write-xs same-length returns returns-2)

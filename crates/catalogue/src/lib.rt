@@ -1,0 +1,4 @@
+// Catalogues: a text read into tables, refused by number and line as the rules say, and access to the tables.
+pub mod access;
+pub mod limits;
+pub mod tables;

@@ -1,0 +1,7 @@
+// Frames: module numbers, places and versions as kinds of their own, pairs of digits, the one table of kinds, the fields of a frame, and frames
+// as they are written.
+pub mod digits;
+pub mod fields;
+pub mod kinds;
+pub mod numbers;
+pub mod written;
