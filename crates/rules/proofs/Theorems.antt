@@ -30,7 +30,7 @@ use Rattle.rules.proofs.Sheets.{Blocks, Derives, search-derives, blocks
 use Rattle.rules.proofs.Reading as Reading
 use Rattle.rules.proofs.SheetText as SheetText
 use Rattle.rules.proofs.SelectionText as SelectionText
-use Rattle.rules.proofs.Samples as Samples
+use Rattle.rules.proofs.Bench as Bench
 
 -- READING
 pub reads-well-formed : ReadsWellFormed
@@ -174,4 +174,4 @@ text-tells = SelectionText.text-tells
 
 -- THE BENCH SAMPLES
 pub samples-hold : Samples
-samples-hold = Samples.samples-hold
+samples-hold = Bench.samples-hold

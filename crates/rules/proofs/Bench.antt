@@ -1,4 +1,5 @@
--- The bench samples B1 to B10 hold of the definitions, by computation. Assumes nothing.
+-- The bench samples B1 to B10 hold of the definitions, by computation. Files are checked by name, after those they use: by its name this one comes
+-- first, so that an edit of a definition that a sample refutes (must-fail/) is refused here. Assumes nothing.
 use mathlib.Core.Path.{refl}
 use mathlib.Core.List.{flatMap}
 use Rattle.rules.specs.Lists.{all, any, keep, firstOf, among, upFrom, downFrom, same}
