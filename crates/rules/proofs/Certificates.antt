@@ -1,24 +1,26 @@
--- Certified selections: they are what the search finds (certified-found), they stand ahead of every other valid selection (certified-ahead), and
--- every selected module stands in the choice order once (order-whole). Assumes nothing.
+-- Certified selections: they are what the search finds (certified-found), every selected module stands in the choice order once (order-whole), and
+-- the last lemma: they stand ahead of every other valid selection (certified-best). Assumes nothing.
 use mathlib.Core.Path.{_≡_, refl, sym, _∙_, ap, subst, subst₂}
-use mathlib.Core.Logic.{_⊎_, inl, inr, ⊎-elim, _≢_}
-use mathlib.Core.Bool.{Bool, true, false, _&&_, cond}
-use mathlib.Core.List.{List, [], _∷_, map, List·Memᴰ as Mem, List·Memᴰ·head as here, List·Memᴰ·tail as there, List·Memᴰ·not-nil as not-nil}
-use mathlib.Core.List.{List·Memᴰ·eq-of-singleton}
+use mathlib.Core.Logic.{⊎-elim, _≢_}
+use mathlib.Core.Bool.{Bool, true, cond}
+use mathlib.Core.List.{List, [], _∷_, map, List·Memᴰ as Mem, List·Memᴰ·head as here, List·Memᴰ·tail as there, List·Memᴰ·eq-of-singleton}
 use mathlib.Core.Option.{Option, none, some}
 use Prim.Native.Nat.{ℕ, zero, suc, _+_, _-_, _≤_, _<_}
 use native.Mathlib.Omega.{arith}
-use lib.Dec.{eqb, ltb}
-use lib.ListN.{length, getD, set}
-use borrow.Author.Tests.{eq-eqb, ne-eqb, eqb-true, lt-ltb}
+use lib.Dec.{eqb}
+use lib.ListN.{getD, set}
+use borrow.Author.Tests.{eq-eqb, ne-eqb, lt-ltb}
 use Rattle.rules.specs.Lists.{among, countOf, ahead}
-use Rattle.rules.specs.Catalogue.{Catalogue, needAt, isOf, placesOf, WellFormed}
-use Rattle.rules.specs.Selection.{Selection, chosenAt, withChoice, nothing, rootOnly, isValid, nextModules, Choice, choice, orderFrom, orderOf}
-use Rattle.rules.specs.Search.{Tries, IsTries, barring, Searched, searched, trialBy, andThen, tryEach, searchFrom, isAheadBy, Keeps, Refuted, CertifiedFrom, Certified}
-use Rattle.rules.proofs.Lists.{and-both, mem-among, same-or-not, one-ahead, ahead-mem, rest-mem}
-use Rattle.rules.proofs.Selections.{suc-not-zero, chosen-lt, chosen-new, chosen-old, absent-or-at, mem-places, Next, next-first, Valid, valid-parts, parts-valid}
-use Rattle.rules.proofs.Partials.{root-chosen, root-only, start-unset, root-place, root-fits, root-partial, unset-most, Partial, choice-keeps, choice-partial, barred-refuted, whole-only}
-use Rattle.rules.proofs.Searches.{next-cases, search-done, search-next, certified-done, certified-next, next-certified, tried, try-of, fewer, valid-at, keeps-at, unbarred, Outcome, all-set, search-outcome}
+use Rattle.rules.specs.Catalogue.{Catalogue, isOf, placesOf, WellFormed}
+use Rattle.rules.specs.Selection.{Selection, chosenAt, withChoice, rootOnly, nextModules, Choice, choice, orderFrom, orderOf}
+use Rattle.rules.specs.Search.{Tries, IsTries, barring, Searched, trialBy, andThen, tryEach, searchFrom, isAheadBy, Keeps, Refuted}
+use Rattle.rules.specs.Search.{CertifiedFrom, Certified}
+use Rattle.rules.proofs.Lists.{mem-among, same-or-not, one-ahead, ahead-mem, rest-mem}
+use Rattle.rules.proofs.Selections.{suc-not-zero, chosen-new, chosen-old, mem-places, Next, next-first, Valid, parts-valid}
+use Rattle.rules.proofs.Partials.{root-chosen, root-only, start-unset, root-partial, unset-most, Partial, next-within, choice-partial}
+use Rattle.rules.proofs.Partials.{whole-only}
+use Rattle.rules.proofs.Searches.{next-cases, search-done, search-next, CertifiedAt, next-certified, tried, try-of, fewer, valid-at, keeps-at}
+use Rattle.rules.proofs.Searches.{unbarred, Outcome, all-set, search-outcome}
 
 -- what a trial finds goes on to the next place or ends it
 none-then : (x : Option Selection) (n : ℕ) (b : Searched) → x ≡ none → andThen x n b .found ≡ b .found
@@ -29,9 +31,11 @@ some-then x n b s e = rw e
 
 -- TRYING PLACES IN TURN finds what the trial of a place finds, where every place ahead of it is given up
 module _ (c : Catalogue) (go : Selection → Searched) (p : Selection) (m i : ℕ) (s : Selection) where
+  -- what the trial of a place finds
   abbrev TrialIs : ℕ → Option Selection → Type 0
   TrialIs j x = trialBy (barring c p m j) go (withChoice p m j) .found ≡ x
 
+  -- what trying places in turn finds, where those ahead of place i are given up and place i succeeds
   tries-found : (is : List ℕ) → Mem i is → ((j : ℕ) → Mem j (ahead is i) → TrialIs j none) → TrialIs i (some s) → tryEach c go p m is .found ≡ some s
   unfolding tryEach ahead
   tries-found (j ∷ is) x given found =
@@ -69,6 +73,7 @@ module _ (c : Catalogue) (t : Tries) (w : WellFormed c) (τ : IsTries c t) where
       barred none e =
           found _ (search-outcome c t w τ n (withChoice p m i) (choice-partial c p m i w g x (try-of c t τ m i (x .fits) h) e) (fewer c p m i n g x z))
 
+  -- a valid and certified selection is what the search finds
   pub certified-found : (n : ℕ) (s p : Selection) → Partial c p → countOf 0 p ≤ n → Valid c s → Keeps p s → CertifiedFrom n c t s p →
       searchFrom n c t p .found ≡ some s
   unfolding searchFrom
@@ -93,7 +98,7 @@ module _ (c : Catalogue) (t : Tries) (w : WellFormed c) (τ : IsTries c t) where
           i : ℕ
           i = at .0
 
-          certified : ((j : ℕ) → among j (ahead (t m) (chosenAt s m - 1)) ≡ true → Refuted c (withChoice p m j)) × CertifiedFrom n c t s (set p m (chosenAt s m))
+          certified : CertifiedAt n c t s p m
           certified = next-certified n c t s p m ms e x
 
           place : i ≡ chosenAt s m - 1
@@ -142,6 +147,7 @@ module _ (c : Catalogue) (t : Tries) (w : WellFormed c) (τ : IsTries c t) (h : 
   Better =
       (m x y : ℕ) → m < c .modules → isOf c m x ≡ true → isOf c m y ≡ true → Mem x (ahead (t m) y) → h m x y ≡ true
 
+  -- of two valid selections that keep the choices so far the certified one stands ahead
   pub certified-ahead : Better → (n : ℕ) (s o p : Selection) → Partial c p → countOf 0 p ≤ n → Valid c s → Valid c o → Keeps p s → Keeps p o → s ≢ o →
       CertifiedFrom n c t s p → isAheadBy h (orderFrom n c s p) (orderFrom n c o p) ≡ true
   certified-ahead b zero s o p g z v u k l d x =
@@ -170,7 +176,7 @@ module _ (c : Catalogue) (t : Tries) (w : WellFormed c) (τ : IsTries c t) (h : 
           after-ours : Selection
           after-ours = withChoice p m (ours .0)
 
-          certified : ((j : ℕ) → among j (ahead (t m) (chosenAt s m - 1)) ≡ true → Refuted c (withChoice p m j)) × CertifiedFrom n c t s (set p m (chosenAt s m))
+          certified : CertifiedAt n c t s p m
           certified = next-certified n c t s p m ms e x
 
           Ahead : Type 0
@@ -206,16 +212,20 @@ module _ (c : Catalogue) (t : Tries) (w : WellFormed c) (τ : IsTries c t) (h : 
 abbrev pub owners : List Choice → List ℕ
 owners xs = map (λ (x : Choice). x .owner) xs
 
+-- 1 for a chosen state, 0 for absent
 abbrev pub isSet : (state : ℕ) → ℕ
 isSet x = cond (eqb x 0) 0 1
 
+-- a chosen version counts
 set-suc : {x i : ℕ} → x ≡ suc i → isSet x ≡ 1
 set-suc {x} {i} e = rw (ne-eqb x 0 (suc-not-zero e))
 
+-- with nothing next, what is selected is what is set
 none-left : (c : Catalogue) (w : WellFormed c) (s p : Selection) (m : ℕ) → Partial c p → nextModules c p ≡ [] → Valid c s → Keeps p s →
     0 + isSet (chosenAt p m) ≡ isSet (chosenAt s m)
 none-left c w s p m g e v k = rw (whole-only c p s w g e v k) (omega arith)
 
+-- a module is counted once in what follows in the order if it is selected and not yet set, and otherwise not
 pub order-rest : (c : Catalogue) (w : WellFormed c) (n : ℕ) (s p : Selection) (m : ℕ) → Partial c p → countOf 0 p ≤ n → Valid c s → Keeps p s →
     countOf m (owners (orderFrom n c s p)) + isSet (chosenAt p m) ≡ isSet (chosenAt s m)
 unfolding countOf orderFrom
@@ -228,7 +238,8 @@ order-rest c w (suc n) s p m g z v k = ⊎-elim done (next (λ q h l j. order-re
     done : nextModules c p ≡ [] → Rest (orderFrom (suc n) c s p)
     done e = subst Rest (sym (order-done n c s p e)) (none-left c w s p m g e v k)
 
-    next : ((q : Selection) → Partial c q → countOf 0 q ≤ n → Keeps q s → countOf m (owners (orderFrom n c s q)) + isSet (chosenAt q m) ≡ isSet (chosenAt s m)) →
+    next : ((q : Selection) → Partial c q → countOf 0 q ≤ n → Keeps q s →
+        countOf m (owners (orderFrom n c s q)) + isSet (chosenAt q m) ≡ isSet (chosenAt s m)) →
         (x : ℕ) × (xs : List ℕ) × (nextModules c p ≡ x ∷ xs) → Rest (orderFrom (suc n) c s p)
     next deeper (x, xs, e) = subst Rest (sym (order-next n c s p x xs e)) (⊎-elim same other (same-or-not m x))
       where
@@ -241,9 +252,6 @@ order-rest c w (suc n) s p m g z v k = ⊎-elim done (next (λ q h l j. order-re
         q : Selection
         q = withChoice p x (at .0)
 
-        within : x < length p
-        within = let f = first .fits in let l = g .size in omega arith
-
         rest : countOf m (owners (orderFrom n c s (set p x (chosenAt s x)))) + isSet (chosenAt q m) ≡ isSet (chosenAt s m)
         rest =
             rw (at .1)
@@ -252,14 +260,15 @@ order-rest c w (suc n) s p m g z v k = ⊎-elim done (next (λ q h l j. order-re
         same : m ≡ x → Rest (choice x (chosenAt s x) ∷ orderFrom n c s (set p x (chosenAt s x)))
         same d =
             let unset : isSet (chosenAt p m) ≡ 0 = rw (d, first .unset) in
-            let now : isSet (chosenAt q m) ≡ 1 = rw d (set-suc (chosen-new p x (at .0) within)) in
+            let now : isSet (chosenAt q m) ≡ 1 = rw d (set-suc (chosen-new p x (at .0) (next-within g first))) in
             rw (eq-eqb m x d) (omega (arith, rest))
 
         other : m ≢ x → Rest (choice x (chosenAt s x) ∷ orderFrom n c s (set p x (chosenAt s x)))
-        other d = rw (ne-eqb m x d) (subst (λ (y : ℕ). countOf m (owners (orderFrom n c s (set p x (chosenAt s x)))) + isSet y ≡ isSet (chosenAt s m)) (chosen-old p x (at .0) m d) rest)
+        other d = let unchanged = ap isSet (chosen-old p x (at .0) m d) in rw (ne-eqb m x d) (omega (arith, rest, unchanged))
 
 -- THE START of every order and search is the root's one version
 module _ (c : Catalogue) (w : WellFormed c) where
+  -- the modules are fuel enough
   pub start-fits : countOf 0 (rootOnly c) ≤ c .modules
   start-fits = let l = root-partial c w .size in let u = unset-most (rootOnly c) in omega arith
 
@@ -277,6 +286,7 @@ module _ (c : Catalogue) (w : WellFormed c) where
     unfolding orderOf
     start-order = rw root-state
 
+-- every selected module stands in the choice order once, and no other
 pub order-whole : (c : Catalogue) (w : WellFormed c) (s : Selection) (m : ℕ) → Valid c s → countOf m (owners (orderOf c s)) ≡ isSet (chosenAt s m)
 unfolding countOf
 order-whole c w s m v = rw (start-order c w s v) (⊎-elim root other (same-or-not m 0))
@@ -298,8 +308,8 @@ order-whole c w s m v = rw (start-order c w s v) (⊎-elim root other (same-or-n
         rw (ne-eqb m 0 n) (omega (arith, counted))
 
 -- a valid and certified selection stands ahead of every other valid one, from the root on
-pub certified-best : (c : Catalogue) (t : Tries) (w : WellFormed c) (τ : IsTries c t) (h : (owner ours theirs : ℕ) → Bool) → Better c t w τ h → (s o : Selection) →
-    Valid c s → Valid c o → s ≢ o → Certified c t s → isAheadBy h (orderOf c s) (orderOf c o) ≡ true
+pub certified-best : (c : Catalogue) (t : Tries) (w : WellFormed c) (τ : IsTries c t) (h : (owner ours theirs : ℕ) → Bool) → Better c t w τ h →
+    (s o : Selection) → Valid c s → Valid c o → s ≢ o → Certified c t s → isAheadBy h (orderOf c s) (orderOf c o) ≡ true
 certified-best c t w τ h b s o v u d x =
     rw (start-order c w s v, start-order c w o u)
     (ahead-same h _ _ 0 _ _ refl

@@ -1,21 +1,22 @@
 -- Incompatibilities: every line of a fitting sheet is true of every valid selection (lines-hold), so a refuting sheet means that there is none
--- (refuted-none); and what need lines and resolved lines block. Assumes nothing.
+-- (refuting-none, the last lemma). Assumes nothing.
 use mathlib.Core.Path.{_≡_, refl, sym, _∙_, ap, subst}
 use mathlib.Core.Logic.{_⊎_, inl, inr, ⊎-elim, _≢_}
-use mathlib.Core.Bool.{Bool, true, false, _&&_, _||_, not, cond}
-use mathlib.Core.List.{List, [], _∷_, _++_, append-assoc, List·Memᴰ as Mem}
-use Prim.Native.Nat.{ℕ, zero, suc, _+_, _-_, _≤_, _<_}
+use mathlib.Core.Bool.{true, false, _&&_, _||_, not}
+use mathlib.Core.List.{List, [], _∷_, _++_}
+use Prim.Native.Nat.{ℕ, zero, suc, _+_, _<_}
 use native.Mathlib.Omega.{arith}
-use lib.Dec.{eqb, ltb}
-use lib.ListN.{length, getD, length-append, List·getD-append}
-use lib.Seq.{getD-append-seam, getD-at}
-use borrow.Author.Tests.{eq-eqb, ne-eqb, eqb-true, eqb-false, ltb-true, lt-ltb, not-true}
-use Rattle.rules.specs.Lists.{all, below, isIn}
-use Rattle.rules.specs.Catalogue.{Catalogue, versionAtPlace, needAt, needyOf, isOf, placesOf, inRange, WellFormed}
-use Rattle.rules.specs.Selection.{Selection, chosenAt, rootOnly, asked, meets, isState, isValid}
-use Rattle.rules.specs.Sheet.{Incompatibility, noIncompatibility, isFull, isInside, blocksAt, blocks, needLine, resolved, refutes, Entry, cites, resolves, lineOf, linesFrom, entryFits, entriesFit, derived, lastLine, isRefuting}
-use Rattle.rules.proofs.Lists.{and-fst, and-snd, and-both, or-cases, or-fst, or-snd, not-both, true-or-false, mem-all, all-mem, all-below, below-all, same-or-not, longer, one-more}
-use Rattle.rules.proofs.Selections.{absent-or-at, mem-places, places-mem, mem-asked, Valid}
+use lib.Dec.{eqb}
+use lib.ListN.{length, getD, List·getD-append}
+use borrow.Author.Tests.{eq-eqb, ne-eqb, eqb-true, ltb-true}
+use Rattle.rules.specs.Lists.{all}
+use Rattle.rules.specs.Catalogue.{Catalogue, needAt, needyOf, isOf, placesOf, WellFormed}
+use Rattle.rules.specs.Selection.{Selection, chosenAt, meets, isState}
+use Rattle.rules.specs.Sheet.{Incompatibility, noIncompatibility, isFull, isInside, needLine, resolved, refutes, Entry, cites, resolves, lineOf}
+use Rattle.rules.specs.Sheet.{linesFrom, entryFits, entriesFit}
+use Rattle.rules.proofs.Lists.{and-fst, and-snd, and-both, or-cases, not-both, true-or-false, mem-all, all-mem, all-below, below-all}
+use Rattle.rules.proofs.Lists.{same-or-not, longer, length-last, one-more}
+use Rattle.rules.proofs.Selections.{AbsentOrAt, absent-or-at, mem-places, places-mem, mem-asked, Valid}
 
 -- no valid selection has every module inside the sets
 abbrev pub Holds : Catalogue → Incompatibility → Type 0
@@ -35,6 +36,7 @@ module _ (c : Catalogue) (k : ℕ) where
   unfolding needLine
   need-other m x n e = rw (ne-eqb m _ n, ne-eqb m (needAt c k .target) e)
 
+  -- a need line is true: a valid selection with the needing version meets the need
   pub need-holds : WellFormed c → k < length (c .needs) → Holds c (needLine c k)
   unfolding isInside
   need-holds w l o v i = not-both outside (ap not met)
@@ -63,6 +65,7 @@ pub resolved-off : (m : ℕ) (f g : Incompatibility) (k x : ℕ) → k ≢ m →
 unfolding resolved
 resolved-off m f g k x e = rw (ne-eqb k m e)
 
+-- a line resolved from two true lines is true
 pub resolved-holds : (c : Catalogue) (m : ℕ) (f g : Incompatibility) → Holds c f → Holds c g → Holds c (resolved m f g)
 unfolding isInside
 resolved-holds c m f g p q o v i = ⊎-elim one other (true-or-false (f m (chosenAt o m)))
@@ -94,21 +97,26 @@ resolved-holds c m f g p q o v i = ⊎-elim one other (true-or-false (f m (chose
 pub lines-length : (c : Catalogue) (fs : List Incompatibility) (es : List Entry) → length (linesFrom c fs es) ≡ length fs + length es
 unfolding linesFrom
 lines-length c fs [] = omega arith
-lines-length c fs (e ∷ es) = lines-length c (fs ++ (lineOf c fs e ∷ [])) es ∙ simp length-append (omega arith)
+lines-length c fs (e ∷ es) = lines-length c (longer fs (lineOf c fs e)) es ∙ omega (arith, length-last fs (lineOf c fs e))
 
+-- later lines leave the earlier ones as they are
 pub lines-earlier : (c : Catalogue) (fs : List Incompatibility) (es : List Entry) (i : ℕ) → i < length fs →
     getD (linesFrom c fs es) i noIncompatibility ≡ getD fs i noIncompatibility
 unfolding linesFrom
 lines-earlier c fs [] i h = refl
 lines-earlier c fs (e ∷ es) i h =
-    lines-earlier c (fs ++ (lineOf c fs e ∷ [])) es i (simp length-append (omega arith)) ∙ List·getD-append fs (lineOf c fs e ∷ []) noIncompatibility i h
+    lines-earlier c (longer fs (lineOf c fs e)) es i (omega (arith, length-last fs (lineOf c fs e))) ∙
+    List·getD-append fs (lineOf c fs e ∷ []) noIncompatibility i h
 
+-- the lines of two lists one after the other
 pub lines-append : (c : Catalogue) (fs : List Incompatibility) (xs ys : List Entry) → linesFrom c fs (xs ++ ys) ≡ linesFrom c (linesFrom c fs xs) ys
 unfolding linesFrom
 lines-append c fs [] ys = refl
-lines-append c fs (x ∷ xs) ys = lines-append c (fs ++ (lineOf c fs x ∷ [])) xs ys
+lines-append c fs (x ∷ xs) ys = lines-append c (longer fs (lineOf c fs x)) xs ys
 
-pub fit-append : (c : Catalogue) (n : ℕ) (xs ys : List Entry) → entriesFit c n xs ≡ true → entriesFit c (n + length xs) ys ≡ true → entriesFit c n (xs ++ ys) ≡ true
+-- two lists that fit one after the other fit together
+pub fit-append : (c : Catalogue) (n : ℕ) (xs ys : List Entry) → entriesFit c n xs ≡ true → entriesFit c (n + length xs) ys ≡ true →
+    entriesFit c n (xs ++ ys) ≡ true
 unfolding entriesFit
 fit-append c n [] ys p q = subst (λ (k : ℕ). entriesFit c k ys ≡ true) (omega arith) q
 fit-append c n (x ∷ xs) ys p q =
@@ -116,26 +124,30 @@ fit-append c n (x ∷ xs) ys p q =
     (fit-append c (suc n) xs ys (and-snd (entryFits c n x) _ p) (subst (λ (k : ℕ). entriesFit c k ys ≡ true) (omega arith) q))
 
 -- every line of a fitting sheet is true
-entry-holds : (c : Catalogue) (fs : List Incompatibility) (e : Entry) → WellFormed c → ((i : ℕ) → i < length fs → Holds c (getD fs i noIncompatibility)) →
+abbrev AllHold : Catalogue → List Incompatibility → Type 0
+AllHold c fs = (i : ℕ) → i < length fs → Holds c (getD fs i noIncompatibility)
+
+entry-holds : (c : Catalogue) (fs : List Incompatibility) (e : Entry) → WellFormed c → AllHold c fs →
     entryFits c (length fs) e ≡ true → Holds c (lineOf c fs e)
 entry-holds c fs (cites k) w h t = need-holds c k w (ltb-true _ _ t)
 entry-holds c fs (resolves a b m) w h t =
     resolved-holds c m _ _ (h a (ltb-true _ _ (search (and-fst, and-snd)))) (h b (ltb-true _ _ (search (and-fst, and-snd))))
 
-pub lines-hold : (c : Catalogue) (fs : List Incompatibility) (es : List Entry) → WellFormed c → ((i : ℕ) → i < length fs → Holds c (getD fs i noIncompatibility)) →
-    entriesFit c (length fs) es ≡ true → (i : ℕ) → i < length (linesFrom c fs es) → Holds c (getD (linesFrom c fs es) i noIncompatibility)
+pub lines-hold : (c : Catalogue) (fs : List Incompatibility) (es : List Entry) → WellFormed c → AllHold c fs → entriesFit c (length fs) es ≡ true →
+    AllHold c (linesFrom c fs es)
 unfolding linesFrom entriesFit
 lines-hold c fs [] w h t = h
 lines-hold c fs (e ∷ es) w h t =
     lines-hold c (longer fs (lineOf c fs e)) es w
     (one-more noIncompatibility fs (lineOf c fs e) (λ i f. Holds c f) h (entry-holds c fs e w h (and-fst _ _ t)))
-    (subst (λ (k : ℕ). entriesFit c k es ≡ true) (simp length-append (omega arith)) (and-snd (entryFits c (length fs) e) _ t))
+    (subst (λ (k : ℕ). entriesFit c k es ≡ true) (sym (length-last fs (lineOf c fs e))) (and-snd (entryFits c (length fs) e) _ t))
 
 -- a full set holds every state of its module
 pub full-state : (c : Catalogue) (f : Incompatibility) (m x : ℕ) → isFull c f m ≡ true → isState c m x ≡ true → f m x ≡ true
 full-state c f m zero h s = and-fst _ _ h
 full-state c f m (suc i) h s = all-mem (λ (j : ℕ). f m (suc j)) (and-snd (f m 0) _ h) (mem-places c m i s)
 
+-- a set that holds absent and every version is full
 pub state-full : (c : Catalogue) (f : Incompatibility) (m : ℕ) → f m 0 ≡ true → ((i : ℕ) → isOf c m i ≡ true → f m (suc i) ≡ true) → isFull c f m ≡ true
 state-full c f m z h = and-both z (mem-all (λ (i : ℕ). f m (suc i)) (placesOf c m) (λ i x. h i (places-mem c m x)))
 
@@ -156,6 +168,6 @@ refuting-none c f r h o v = h o v (below-all (λ (m : ℕ). f m (chosenAt o m)) 
         subst (λ (k : ℕ). f k (chosenAt o k) ≡ true) (sym z) (rw (v .root .1) (root _ (v .states 0 _ (v .root .1))))
     inside m l (inr e) = full-state c f m (chosenAt o m) e (state (absent-or-at (chosenAt o m)))
       where
-        state : (chosenAt o m ≡ 0) ⊎ ((i : ℕ) × (chosenAt o m ≡ suc i)) → isState c m (chosenAt o m) ≡ true
+        state : AbsentOrAt (chosenAt o m) → isState c m (chosenAt o m) ≡ true
         state (inl z) = rw z
         state (inr x) = rw (x .1) (v .states m (x .0) (x .1))

@@ -12,4 +12,4 @@ pub mod Searches
 pub mod Certificates
 pub mod Incompatibilities
 pub mod Sheets
-pub mod Samples
+pub mod Bench

@@ -1,17 +1,19 @@
--- Laws of the tests and lists of specs/Lists.antt: what a passed or failed test says, membership, and lists of numbers. Assumes nothing.
+-- Laws of the tests and lists of specs/Lists.antt: what a passed or failed test says, membership, and lists of numbers. The last lemmas say what
+-- holds at every place, and of every two places, of a list with one more element. Assumes nothing.
 use mathlib.Core.Path.{_≡_, refl, sym, _∙_, ap, subst}
-use mathlib.Core.Logic.{_↔_, _⊎_, inl, inr, ⊎-elim, _≢_}
-use mathlib.Core.Bool.{Bool, true, false, _&&_, _||_, not, cond, true≢false, false≢true}
-use mathlib.Core.List.{List, [], _∷_, _++_, map, flatMap, List·Memᴰ as Mem, List·Memᴰ·head as here, List·Memᴰ·tail as there, List·Memᴰ·not-nil as not-nil, Memᴰ·append-left, Memᴰ·append-right, List·Memᴰ·append-cases}
-use mathlib.Core.Option.{Option, none, some, Option·none-ne-some, Option·some-injective}
+use mathlib.Core.Logic.{_⊎_, inl, inr, ⊎-elim, _≢_}
+use mathlib.Core.Bool.{Bool, true, false, _&&_, _||_, cond, true≢false, false≢true}
+use mathlib.Core.List.{List, [], _∷_, _++_, flatMap, List·Memᴰ as Mem, List·Memᴰ·head as here, List·Memᴰ·tail as there, List·Memᴰ·not-nil as not-nil}
+use mathlib.Core.List.{Memᴰ·append-left, Memᴰ·append-right, List·Memᴰ·append-cases}
+use mathlib.Core.Option.{none, some, Option·none-ne-some, Option·some-injective}
 use Prim.Native.Nat.{ℕ, zero, suc, _+_, _≤_, _<_}
 use native.Mathlib.Omega.{arith}
 use native.Mathlib.Nat.{not-suc-le-zero, not-le-of-lt}
-use lib.Dec.{ltb, leb, eqb}
-use borrow.Author.Tests.{ltb-true, ltb-false, leb-true, eqb-true, eqb-false, eq-eqb, ne-eqb, le-ltb, lt-ltb, le-leb, not-true, not-false}
+use lib.Dec.{ltb, eqb}
+use borrow.Author.Tests.{ltb-true, ltb-false, eqb-true, eqb-false, eq-eqb, ne-eqb, le-ltb, lt-ltb}
 use lib.ListN.{length, getD, length-append, List·getD-append}
 use lib.Seq.{getD-append-seam}
-use Rattle.rules.specs.Lists.{isIn, all, any, keep, firstOf, among, countOf, ahead, upFrom, below, downFrom, same}
+use Rattle.rules.specs.Lists.{all, any, keep, firstOf, among, countOf, ahead, upFrom, below, downFrom, same}
 
 -- TESTS
 pub and-fst : (a b : Bool) → (a && b) ≡ true → a ≡ true
@@ -40,18 +42,13 @@ pub true-or-false : (a : Bool) → (a ≡ true) ⊎ (a ≡ false)
 true-or-false true = inl refl
 true-or-false false = inr refl
 
+-- no test both passes and fails
 pub not-both : {a : Bool} → a ≡ true → a ≡ false → ⊥
 not-both p q = true≢false (sym p ∙ q)
-
-pub cond-true : {A : Type 0} {b : Bool} (x y : A) → b ≡ true → cond b x y ≡ x
-cond-true x y e = rw e
 
 pub cond-same : {A : Type 0} {x : A} (b : Bool) → x ≡ cond b x x
 cond-same true = refl
 cond-same false = refl
-
-pub cond-false : {A : Type 0} {b : Bool} (x y : A) → b ≡ false → cond b x y ≡ y
-cond-false x y e = rw e
 
 pub same-or-not : (x y : ℕ) → (x ≡ y) ⊎ (x ≢ y)
 same-or-not x y = go (eqb x y) refl
@@ -86,13 +83,6 @@ module _ {A : Type 0} where
       go r (inl p) = (y, (here refl, p))
       go r (inr p) = (r p .0, (there (r p .1 .0), r p .1 .1))
 
-  pub none-any : (f : A → Bool) {x : A} {xs : List A} → any f xs ≡ false → Mem x xs → f x ≡ false
-  none-any f {x} e h = go (f x) refl
-    where
-      go : (b : Bool) → f x ≡ b → f x ≡ false
-      go true p = absurd (not-both (mem-any f h p) e)
-      go false p = p
-
   pub mem-keep : (f : A → Bool) {x : A} {xs : List A} → Mem x xs → f x ≡ true → Mem x (keep f xs)
   unfolding keep
   mem-keep f {xs = y ∷ ys} (here p) e = rw (subst (λ (z : A). f z ≡ true) p e) (here p)
@@ -106,13 +96,14 @@ module _ {A : Type 0} where
   unfolding keep
   keep-mem f x (y ∷ ys) h = go (f y) refl h (λ m. keep-mem f x ys m)
     where
-      go : (b : Bool) → f y ≡ b → Mem x (cond b (y ∷ keep f ys) (keep f ys)) → (Mem x (keep f ys) → Mem x ys × (f x ≡ true)) → Mem x (y ∷ ys) × (f x ≡ true)
+      go : (b : Bool) → f y ≡ b → Mem x (cond b (y ∷ keep f ys) (keep f ys)) → (Mem x (keep f ys) → Mem x ys × (f x ≡ true)) →
+          Mem x (y ∷ ys) × (f x ≡ true)
       go true e (here p) r = (here p, rw p e)
       go true e (there m) r = (there (r m .0), r m .1)
       go false e m r = (there (r m .0), r m .1)
   keep-mem f x [] h = absurd (not-nil h)
 
-  -- the first that passes is one of the list; where there is none, all fail
+  -- the first that passes is one of the list
   pub first-mem : (f : A → Bool) (xs : List A) (x : A) → firstOf f xs ≡ some x → Mem x xs × (f x ≡ true)
   unfolding firstOf
   first-mem f [] x e = absurd (Option·none-ne-some _ e)
@@ -123,11 +114,13 @@ module _ {A : Type 0} where
       go true p q r = (here (sym (Option·some-injective _ _ q)), subst (λ (z : A). f z ≡ true) (Option·some-injective _ _ q) p)
       go false p q r = (there (r q .0), r q .1)
 
+  -- where there is none, every element fails
   pub first-none : (f : A → Bool) {x : A} {xs : List A} → firstOf f xs ≡ none → Mem x xs → f x ≡ false
   unfolding firstOf
   first-none f {xs = y ∷ ys} e h = go (f y) refl e h (λ p m. first-none f p m)
     where
-      go : {x : A} (b : Bool) → f y ≡ b → cond b (some y) (firstOf f ys) ≡ none → Mem x (y ∷ ys) → (firstOf f ys ≡ none → Mem x ys → f x ≡ false) → f x ≡ false
+      go : {x : A} (b : Bool) → f y ≡ b → cond b (some y) (firstOf f ys) ≡ none → Mem x (y ∷ ys) →
+          (firstOf f ys ≡ none → Mem x ys → f x ≡ false) → f x ≡ false
       go true p q m r = absurd (Option·none-ne-some _ (sym q))
       go false p q (here z) r = rw z p
       go false p q (there m) r = r q m
@@ -146,12 +139,10 @@ module _ {A : Type 0} where
       go (inl m) r = (z, (here refl, m))
       go (inr m) r = (r m .0, (there (r m .1 .0), r m .1 .1))
 
+  -- what is in a list and is not its first is in the rest
   pub rest-mem : {x z : A} {zs : List A} → Mem x (z ∷ zs) → z ≢ x → Mem x zs
   rest-mem (here p) n = absurd (n (sym p))
   rest-mem (there h) n = h
-
-  pub mem-nonempty : {x : A} {xs : List A} → Mem x xs → xs ≡ [] → ⊥
-  mem-nonempty {x} h e = not-nil (subst (λ (l : List A). Mem x l) e h)
 
   pub getD-mem : (d : A) (xs : List A) (i : ℕ) → i < length xs → Mem (getD xs i d) xs
   getD-mem d [] i h = absurd (not-suc-le-zero h)
@@ -229,6 +220,7 @@ mem-count {x} {xs = y ∷ ys} (there h) = go (eqb x y) (mem-count h)
     go true g = omega arith
     go false g = g
 
+-- to be below n or below n + 1 is the same for any number but n
 ltb-past : (x n : ℕ) → x ≢ n → ltb x n ≡ ltb x (suc n)
 ltb-past x n h = go (true-or-false (ltb x n))
   where
@@ -236,7 +228,7 @@ ltb-past x n h = go (true-or-false (ltb x n))
     go (inl e) = let l = ltb-true x n e in e ∙ sym (lt-ltb x (suc n) (omega arith))
     go (inr e) = let l = ltb-false x n e in e ∙ sym (le-ltb x (suc n) (omega arith))
 
--- what stands once in a list that falls from n - 1 stands once, or not, in what is kept of it
+-- each number below n stands once in the list that falls from n - 1
 pub count-downFrom : (n x : ℕ) → countOf x (downFrom n) ≡ cond (ltb x n) 1 0
 unfolding countOf downFrom
 count-downFrom zero x = rw (le-ltb x 0 (omega arith))
@@ -246,6 +238,7 @@ count-downFrom (suc n) x = go (same-or-not x n) (count-downFrom n x)
     go (inl e) r = rw (eq-eqb x n e, lt-ltb x (suc n) (omega arith), r, le-ltb x n (omega arith))
     go (inr e) r = rw (ne-eqb x n e) (r ∙ ap (λ (b : Bool). cond {A = ℕ} b 1 0) (ltb-past x n e))
 
+-- what is kept of a list holds a number as often as the list if it passes, and otherwise not
 pub count-keep : (f : ℕ → Bool) (x : ℕ) (xs : List ℕ) → countOf x (keep f xs) ≡ cond (f x) (countOf x xs) 0
 unfolding countOf keep
 count-keep f x [] = cond-same (f x)
@@ -258,7 +251,7 @@ count-keep f x (y ∷ ys) = go (same-or-not x y) (f y) refl (count-keep f x ys)
     go (inr e) true p r = rw (ne-eqb x y e) r
     go (inr e) false p r = rw (ne-eqb x y e) r
 
--- AHEAD: of two different members one stands ahead of the other
+-- AHEAD: what stands ahead of a number is in the list
 pub ahead-mem : {x : ℕ} (y : ℕ) (xs : List ℕ) → Mem x (ahead xs y) → Mem x xs
 unfolding ahead
 ahead-mem y [] h = h
@@ -269,11 +262,13 @@ ahead-mem {x} y (z ∷ zs) h = go (eqb z y) h (λ m. ahead-mem y zs m)
     go false (here p) r = here p
     go false (there m) r = there (r m)
 
+-- of two different members one stands ahead of the other
 pub one-ahead : {x y : ℕ} {xs : List ℕ} → Mem x xs → Mem y xs → x ≢ y → Mem x (ahead xs y) ⊎ Mem y (ahead xs x)
 unfolding ahead
 one-ahead {x} {y} {xs = z ∷ zs} h g n = go (same-or-not z y) (same-or-not z x) (λ p q. one-ahead p q n)
   where
-    go : (z ≡ y) ⊎ (z ≢ y) → (z ≡ x) ⊎ (z ≢ x) → (Mem x zs → Mem y zs → Mem x (ahead zs y) ⊎ Mem y (ahead zs x)) → Mem x (ahead (z ∷ zs) y) ⊎ Mem y (ahead (z ∷ zs) x)
+    go : (z ≡ y) ⊎ (z ≢ y) → (z ≡ x) ⊎ (z ≢ x) → (Mem x zs → Mem y zs → Mem x (ahead zs y) ⊎ Mem y (ahead zs x)) →
+        Mem x (ahead (z ∷ zs) y) ⊎ Mem y (ahead (z ∷ zs) x)
     go (inl a) (inl b) r = absurd (n (sym b ∙ a))
     go (inl a) (inr b) r = inr (rw (ne-eqb z x b) (here (sym a)))
     go (inr a) (inl b) r = inl (rw (ne-eqb z y a) (here (sym b)))
@@ -325,6 +320,10 @@ keep-least f i (suc n) m k ms e h t = go (f i) refl e h (λ p q. keep-least f (s
 abbrev pub longer : {A : Type 0} → List A → A → List A
 longer xs x = xs ++ (x ∷ [])
 
+-- one more element, one more in length
+pub length-last : {A : Type 0} (xs : List A) (x : A) → length (longer xs x) ≡ suc (length xs)
+length-last xs x = rw length-append (omega arith)
+
 module _ {A : Type 0} (d : A) (xs : List A) (x : A) where
   -- what holds at every place, and of the new element at the next, holds at every place of the longer list
   pub one-more : (P : ℕ → A → Type 0) → ((i : ℕ) → i < length xs → P i (getD xs i d)) → P (length xs) x →
@@ -336,7 +335,7 @@ module _ {A : Type 0} (d : A) (xs : List A) (x : A) where
 
       before : i ≢ length xs → P i (getD (longer xs x) i d)
       before e =
-          let g : i < length xs = omega (arith, length-append xs (x ∷ [])) in
+          let g : i < length xs = omega (arith, length-last xs x) in
           rw (List·getD-append xs (x ∷ []) d i g) (old i g)
 
   -- what holds of every two places, the lower one first, and of each with the new element holds of every two places of the longer list

@@ -1,14 +1,14 @@
 -- The line loop that all readers share: a text is read without a fault exactly when there is a run through its lines, and what holds at the
 -- start of a run and is kept by each good line holds at its end. Assumes nothing.
-use mathlib.Core.Path.{_≡_, refl, sym, _∙_, ap, subst}
-use mathlib.Core.Logic.{_⊎_, inl, inr, _≢_}
+use mathlib.Core.Path.{_≡_, refl, ap}
+use mathlib.Core.Logic.{_≢_}
 use mathlib.Core.Bool.{Bool, true, false, cond}
 use mathlib.Core.List.{List, [], _∷_}
-use Prim.Native.Nat.{ℕ, zero, suc, _-_, _≤_}
+use Prim.Native.Nat.{ℕ, suc, _-_, _≤_}
 use native.Mathlib.Omega.{arith}
-use lib.Dec.{ltb, leb, eqb}
+use lib.Dec.{ltb, eqb}
 use lib.ListN.{length}
-use borrow.Author.Tests.{eqb-true, eqb-false, eq-eqb, ltb-false, le-ltb}
+use borrow.Author.Tests.{eqb-true, eqb-false, ltb-false, le-ltb}
 use Rattle.rules.specs.Lines.{Fault, fault, fine, orElse, unless, Line, linesOf, shapeFits}
 use Rattle.rules.specs.Frames.{frameOf, sumFits, kindFits, Reader, Read, bad, got, lineFault, readFrom, readText, faultOf}
 
@@ -32,6 +32,7 @@ orElse-none n m e = go (eqb n 0) refl e
     go true p q = (eqb-true n 0 p, q)
     go false p q = absurd (eqb-false n 0 p q)
 
+-- a test that tells no fault passes
 pub unless-none : (b : Bool) (n : ℕ) → n ≢ 0 → unless b n ≡ 0 → b ≡ true
 unless-none true n h e = refl
 unless-none false n h e = absurd (h e)
@@ -54,6 +55,7 @@ module _ {S : Type 0} (r : Reader S) where
   unfolding lineFault
   line-good s l g = rw (g .shape, g .sum, g .kind) (g .content)
 
+  -- a run is what the loop gives
   pub run-got : (i : ℕ) {s u : S} {ls : List Line} → Run r s ls u → readFrom r i s ls ≡ got u
   unfolding readFrom
   run-got i (stop e z) = rw (e, z)
@@ -106,6 +108,7 @@ module _ {S : Type 0} (r : Reader S) where
       go true p h = absurd (one-not-zero (ap (λ (x : Fault). x .number) h))
       go false p h = let k = fine-run 1 s (linesOf t) h in (k .0, k .1, ltb-false most (length t) p, k .2)
 
+  -- a text that is not too long, with a run through its lines, is read
   pub run-text : (most : ℕ) (s u : S) (t : List ℕ) → length t ≤ most → Run r s (linesOf t) u → readText r most s t ≡ got u
   unfolding readText
   run-text most s u t h n = rw (le-ltb most (length t) h) (run-got 1 n)

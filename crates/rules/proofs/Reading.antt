@@ -3,43 +3,23 @@
 use mathlib.Core.Path.{_≡_, refl}
 use mathlib.Core.Logic.{_⊎_, inl, inr, ⊎-elim, _≢_}
 use mathlib.Core.Bool.{Bool, true, false, _&&_, _||_, not, cond, false≢true}
-use mathlib.Core.List.{List, [], _∷_, _++_}
-use Prim.Native.Nat.{ℕ, zero, suc, _+_, _*_, _-_, _≤_, _<_}
+use mathlib.Core.List.{List, [], _∷_}
+use Prim.Native.Nat.{ℕ, _+_, _*_, _-_, _≤_, _<_}
 use native.Mathlib.Omega.{arith}
 use native.Mathlib.Nat.{not-suc-le-zero}
 use lib.Dec.{ltb, leb, eqb}
 use borrow.Author.Tests.{ltb-true, ltb-false, leb-true, eqb-true, eqb-false, eq-eqb, lt-ltb, not-true}
-use lib.ListN.{length, getD, length-append, List·getD-append, List·getD-eq-default}
-use lib.Seq.{getD-append-seam}
-use Rattle.rules.specs.Lists.{isIn, all}
-use Rattle.rules.specs.Lines.{Line, unless, isDigit, shapeFits}
-use Rattle.rules.specs.Frames.{digitOf, frameOf, byteAt, versionAt}
-use Rattle.rules.specs.Catalogue.{Version, Need, Catalogue, catalogue, noCatalogue, noVersion, noNeed, versionAtPlace, needAt, placesOf}
-use Rattle.rules.specs.Catalogue.{Limits, CarriedLimits, WellFormed, Carried, catalogueReader, catalogueOf, Reading, reading, withFrame}
-use Rattle.rules.specs.Catalogue.{isHead, isVersion, isCaret, isNeed, lastVersion, versionIn, needIn, hasVersion, isOlder}
-use Rattle.rules.specs.Catalogue.{orderFits, contentFits, roomFits, rootFits}
+use lib.ListN.{length, getD, List·getD-append, List·getD-eq-default}
+use Rattle.rules.specs.Lines.{Line, unless}
+use Rattle.rules.specs.Frames.{frameOf, byteAt, versionAt}
+use Rattle.rules.specs.Catalogue.{Version, Need, Catalogue, catalogue, noCatalogue, noVersion, noNeed, versionAtPlace, needAt, placesOf, Limits}
+use Rattle.rules.specs.Catalogue.{CarriedLimits, WellFormed, Carried, catalogueReader, catalogueOf, Reading, reading, withFrame, isHead}
+use Rattle.rules.specs.Catalogue.{isVersion, isCaret, isNeed, lastVersion, versionIn, needIn, hasVersion, isOlder, orderFits, contentFits}
+use Rattle.rules.specs.Catalogue.{roomFits, rootFits}
 use Rattle.rules.specs.Promises.{ReadsWellFormed}
-use Rattle.rules.proofs.Lists.{and-fst, and-snd, and-both, or-cases, or-fst, or-snd, same-or-not, longer, one-more, one-more-pair}
+use Rattle.rules.proofs.Lists.{and-fst, and-snd, and-both, or-cases, or-fst, or-snd, same-or-not, longer, length-last, one-more, one-more-pair}
+use Rattle.rules.proofs.Written.{good-bytes}
 use Rattle.rules.proofs.Readers.{Run, Good, orElse-none, unless-none, fine-text, run-keeps}
-
--- BYTES of a line of digits
-digit-below : (x : ℕ) → isDigit x ≡ true → digitOf x < 16
-digit-below x h = go (leb x 57) refl (or-cases (isIn 48 57 x) _ h)
-  where
-    go : (b : Bool) → leb x 57 ≡ b → (isIn 48 57 x ≡ true) ⊎ (isIn 65 70 x ≡ true) → cond b (x - 48) (x - 55) < 16
-    go true e k = let m = leb-true x 57 e in omega arith
-    go false e (inl p) = let m = leb-true x 57 (and-snd (leb 48 x) _ p) in omega arith
-    go false e (inr p) = let m = leb-true x 70 (and-snd (leb 65 x) _ p) in omega arith
-
-pub bytes-below : (ds : List ℕ) (i : ℕ) → all isDigit ds ≡ true → byteAt (frameOf ds) i < 256
-unfolding frameOf all
-bytes-below [] i h = omega arith
-bytes-below (a ∷ []) i h = omega arith
-bytes-below (a ∷ b ∷ ds) zero h =
-    let high = digit-below a (and-fst _ _ h) in
-    let low = digit-below b (and-fst _ _ (and-snd (isDigit a) _ h)) in
-    omega arith
-bytes-below (a ∷ b ∷ ds) (suc i) h = bytes-below ds i (and-snd (isDigit b) _ (and-snd (isDigit a) _ h))
 
 -- THE ORDER OF VERSIONS: by module, then by value
 abbrev Older : (one other : Version) → Type 0
@@ -84,6 +64,7 @@ record Sound (l : Limits) (c : Catalogue) : Type 0 where
   needs : (k : ℕ) → k < length (c .needs) → NeedSound (c .modules) (c .versions) (needAt c k)
   room : length (c .needs) ≤ l .inAll
 
+-- a catalogue with nothing in it is sound
 empty-sound : (l : Limits) (m : ℕ) → m ≤ 32 → Sound l (catalogue m [] [])
 empty-sound l m h =
     record {
@@ -113,6 +94,7 @@ module _ (l : Limits) (c : Catalogue) (sound : Sound l c) where
       earlier : i ≢ length (c .versions) - 1 → isOlder (versionAtPlace c i) (lastVersion c) ≡ true
       earlier e = sound .rising i (length (c .versions) - 1) (omega arith) (omega arith)
 
+  -- a version that is newer than all others
   version-sound : (v : Version) → VersionSound (c .modules) v → ((i : ℕ) → i < length (c .versions) → isOlder (versionAtPlace c i) v ≡ true) →
       Sound l (catalogue (c .modules) (longer (c .versions) v) (c .needs))
   version-sound v h newer =
@@ -127,12 +109,13 @@ module _ (l : Limits) (c : Catalogue) (sound : Sound l c) where
       still : {n : Need} → NeedSound (c .modules) (c .versions) n → NeedSound (c .modules) (longer (c .versions) v) n
       still {n} s =
           record {
-            needy = omega (arith, length-append (c .versions) (v ∷ []));
+            needy = omega (arith, length-last (c .versions) v);
             target = s .target;
             other = rw (List·getD-append (c .versions) (v ∷ []) noVersion (n .version) (s .needy)) (s .other);
             range = s .range;
           }
 
+  -- a need of a version that is there
   need-sound : (n : Need) → NeedSound (c .modules) (c .versions) n → length (c .needs) < l .inAll →
       Sound l (catalogue (c .modules) (c .versions) (longer (c .needs) n))
   need-sound n h g =
@@ -141,7 +124,7 @@ module _ (l : Limits) (c : Catalogue) (sound : Sound l c) where
         versions = sound .versions;
         rising = sound .rising;
         needs = one-more noNeed (c .needs) n (λ k. NeedSound (c .modules) (c .versions)) (sound .needs) h;
-        room = omega (arith, length-append (c .needs) (n ∷ []));
+        room = omega (arith, length-last (c .needs) n);
       }
 
 -- GOOD FRAMES: what a good line says of its frame
@@ -152,18 +135,18 @@ record Fits (l : Limits) (s : Reading) (f : List ℕ) : Type 0 where
   room : roomFits l (s .sofar) f ≡ true
 
 good-fits : (l : Limits) (s : Reading) (x : Line) → Good (catalogueReader l) s x → Fits l s (frameOf (x .digits))
-unfolding shapeFits
 good-fits l s x g =
     let f = frameOf (x .digits) in
     let one = orElse-none (unless (orderFits s f) 5) _ (g .content) in
     let two = orElse-none (unless (contentFits (s .sofar) f) 6) _ (one .1) in
     record {
-      bytes = λ i. bytes-below (x .digits) i (and-snd (x .isEnded && leb 4 (length (x .digits)) && _) _ (g .shape));
+      bytes = good-bytes (catalogueReader l) s x g;
       order = unless-none (orderFits s f) 5 (omega arith) (one .0);
       content = unless-none (contentFits (s .sofar) f) 6 (omega arith) (two .0);
       room = unless-none (roomFits l (s .sofar) f) 7 (omega arith) (two .1);
     }
 
+-- a choice that is true though its first branch is false takes the second
 cond-else : (z b : Bool) → cond z false b ≡ true → b ≡ true
 cond-else true b e = absurd (false≢true e)
 cond-else false b e = e
@@ -221,6 +204,7 @@ module _ (l : Limits) (s : Reading) (f : List ℕ) (fits : Fits l s f) (sound : 
             range = rises (isCaret f) (search (and-fst, and-snd));
           }
 
+  -- a head, a version, a need, or the end, which changes nothing
   frame-kept : Sound l (withFrame (s .sofar) f)
   unfolding withFrame
   frame-kept = go (isHead f) refl (isVersion f) refl (isNeed f) refl
@@ -241,11 +225,13 @@ run-sound l {u} run =
     keeps : (s : Reading) (x : Line) → Sound l (s .sofar) → Good (catalogueReader l) s x → Sound l (withFrame (s .sofar) (frameOf (x .digits)))
     keeps s x h g = frame-kept l s (frameOf (x .digits)) (good-fits l s x g) h
 
+-- a list of one element
 only-one : (xs : List ℕ) → length xs ≡ 1 → (i : ℕ) × (xs ≡ i ∷ [])
 only-one [] h = absurd (omega arith)
 only-one (x ∷ []) h = (x, refl)
 only-one (x ∷ y ∷ ys) h = absurd (omega arith)
 
+-- what is sound and has one root is well formed
 sound-well-formed : (l : Limits) (c : Catalogue) → Sound l c → rootFits c ≡ true → WellFormed c
 sound-well-formed l c h r =
     record {
@@ -258,6 +244,7 @@ sound-well-formed l c h r =
       root = only-one (placesOf c 0) (eqb-true _ 1 r);
     }
 
+-- what is sound the frames can carry
 sound-carried : (l : Limits) (c : Catalogue) → CarriedLimits l → Sound l c → Carried c
 sound-carried l c k h =
     record {
@@ -271,6 +258,7 @@ sound-carried l c k h =
     value i true e = h .versions i (ltb-true _ _ e) .value
     value i false e = rw (List·getD-eq-default (c .versions) noVersion (ltb-false _ _ e)) (omega arith)
 
+-- a text that is not refused gives a well-formed catalogue that the frames can carry
 pub reads-well-formed : ReadsWellFormed
 reads-well-formed l t k e =
     let read = fine-text (catalogueReader l) (l .bytes) (reading 0 noCatalogue) t e in

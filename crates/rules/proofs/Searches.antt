@@ -5,18 +5,20 @@ use mathlib.Core.Logic.{_⊎_, inl, inr, ⊎-elim, _≢_}
 use mathlib.Core.Bool.{Bool, true, false, cond}
 use mathlib.Core.List.{List, [], _∷_, List·Memᴰ as Mem, List·Memᴰ·head as here, List·Memᴰ·tail as there, List·Memᴰ·not-nil as not-nil}
 use mathlib.Core.Option.{Option, none, some}
-use Prim.Native.Nat.{ℕ, zero, suc, _+_, _-_, _≤_, _<_}
+use Prim.Native.Nat.{ℕ, zero, suc, _-_, _≤_, _<_}
 use native.Mathlib.Omega.{arith}
 use lib.Dec.{eqb}
-use lib.ListN.{length, getD, set}
-use borrow.Author.Tests.{eq-eqb, ne-eqb}
+use lib.ListN.{set}
+use borrow.Author.Tests.{eq-eqb}
 use Rattle.rules.specs.Lists.{among, countOf, ahead}
-use Rattle.rules.specs.Catalogue.{Catalogue, needAt, isOf, placesOf, WellFormed}
-use Rattle.rules.specs.Selection.{Selection, chosenAt, withChoice, rootOnly, isValid, nextModules, Choice, choice, orderFrom}
-use Rattle.rules.specs.Search.{Tries, IsTries, barring, Searched, searched, trialBy, andThen, tryEach, searchFrom, Keeps, Refuted, CertifiedFrom}
-use Rattle.rules.proofs.Lists.{mem-count, count-mem, among-mem, same-or-not}
-use Rattle.rules.proofs.Selections.{suc-not-zero, chosen-lt, chosen-new, of-parts, asked-keeps, isAsked-mem, Next, next-first, next-none, Valid, valid-parts, parts-valid}
-use Rattle.rules.proofs.Partials.{unset-choice, unset-left, Partial, choice-cases, choice-keeps, choice-partial, barred-refuted, whole-valid, whole-only}
+use Rattle.rules.specs.Catalogue.{Catalogue, isOf, WellFormed}
+use Rattle.rules.specs.Selection.{Selection, chosenAt, withChoice, nextModules}
+use Rattle.rules.specs.Search.{Tries, IsTries, barring, Searched, searched, trialBy, andThen, tryEach, searchFrom, Keeps, Refuted}
+use Rattle.rules.specs.Search.{CertifiedFrom}
+use Rattle.rules.proofs.Lists.{mem-count, count-mem, among-mem}
+use Rattle.rules.proofs.Selections.{chosen-new, asked-keeps, isAsked-mem, Next, next-first, Valid, valid-parts, parts-valid}
+use Rattle.rules.proofs.Partials.{unset-choice, unset-left, Partial, next-within, choice-cases, choice-keeps, choice-partial, barred-refuted}
+use Rattle.rules.proofs.Partials.{whole-valid}
 
 -- nothing is next, or a module is
 pub next-cases : (c : Catalogue) (p : Selection) → (nextModules c p ≡ []) ⊎ ((m : ℕ) × (ms : List ℕ) × (nextModules c p ≡ m ∷ ms))
@@ -31,18 +33,16 @@ pub all-set : (c : Catalogue) (p : Selection) → Partial c p → countOf 0 p �
 all-set c p g z = ⊎-elim (λ e. e) (λ r. absurd (none (r .0) (next-first c p (r .0) (r .1) (r .2)))) (next-cases c p)
   where
     none : (m : ℕ) → Next c p m → ⊥
-    none m n =
-        let f = n .fits in
-        let l = g .size in
-        let u = unset-left p m (omega arith) (n .unset) in
-        omega arith
+    none m n = let u = unset-left p m (next-within g n) (n .unset) in omega arith
 
 -- THE STEPS of the definitions that go by the next module
 module _ (n : ℕ) (c : Catalogue) (t : Tries) (p : Selection) where
+  -- with nothing next the search ends with success
   pub search-done : nextModules c p ≡ [] → searchFrom (suc n) c t p ≡ searched (some p) 0
   unfolding searchFrom
   search-done e = rw (e, searchFrom)
 
+  -- and otherwise it tries the next module's places
   pub search-next : (m : ℕ) (ms : List ℕ) → nextModules c p ≡ m ∷ ms → searchFrom (suc n) c t p ≡ tryEach c (searchFrom n c t) p m (t m)
   unfolding searchFrom
   search-next m ms e = rw (e, searchFrom)
@@ -52,6 +52,7 @@ module _ (n : ℕ) (c : Catalogue) (t : Tries) (s p : Selection) where
   unfolding CertifiedFrom
   certified-done e = rw (e, CertifiedFrom) tt
 
+  -- the certificate at a next module: what stands ahead is refuted, and the rest is certified
   abbrev pub CertifiedAt : ℕ → Type 0
   CertifiedAt m =
       ((i : ℕ) → among i (ahead (t m) (chosenAt s m - 1)) ≡ true → Refuted c (withChoice p m i)) × CertifiedFrom n c t s (set p m (chosenAt s m))
@@ -66,9 +67,11 @@ module _ (n : ℕ) (c : Catalogue) (t : Tries) (s p : Selection) where
 
 -- TRIES of a module are its versions
 module _ (c : Catalogue) (t : Tries) (τ : IsTries c t) where
+  -- each version is tried
   pub tried : (m i : ℕ) → m < c .modules → isOf c m i ≡ true → Mem i (t m)
   tried m i h o = count-mem i (t m) (let k = τ m i h ∙ ap (λ (b : Bool). cond {A = ℕ} b 1 0) o in omega arith)
 
+  -- and each try is a version
   pub try-of : (m i : ℕ) → m < c .modules → Mem i (t m) → isOf c m i ≡ true
   try-of m i h x = go (isOf c m i) refl
     where
@@ -78,25 +81,20 @@ module _ (c : Catalogue) (t : Tries) (τ : IsTries c t) where
 
 -- a choice of the next module leaves fewer unset
 pub fewer : (c : Catalogue) (p : Selection) (m i n : ℕ) → Partial c p → Next c p m → countOf 0 p ≤ suc n → countOf 0 (withChoice p m i) ≤ n
-fewer c p m i n g x z =
-    let f = x .fits in
-    let l = g .size in
-    let one = unset-choice p m i (omega arith) (x .unset) in
-    omega arith
+fewer c p m i n g x z = let one = unset-choice p m i (next-within g x) (x .unset) in omega arith
 
 -- A VALID SELECTION at a next module: it has a version there, and keeping the choice of that version
 module _ (c : Catalogue) (p s : Selection) (m : ℕ) (g : Partial c p) (n : Next c p m) (v : Valid c s) (k : Keeps p s) where
-  within : m < length p
-  within = let f = n .fits in let z = g .size in omega arith
-
+  -- it has a version there, for the need that asks for the module
   pub valid-at : (i : ℕ) × (chosenAt s m ≡ suc i)
   valid-at =
       let a = isAsked-mem c p m (n .needed) in
       let r = v .met (a .0) (asked-keeps c p s k (a .1 .0)) in
       (r .0, subst (λ (x : ℕ). chosenAt s x ≡ suc (r .0)) (a .1 .1) (r .1))
 
+  -- with that version chosen its choices are still kept
   pub keeps-at : (i : ℕ) → chosenAt s m ≡ suc i → Keeps (withChoice p m i) s
-  keeps-at i e x j h = ⊎-elim same other (choice-cases p m i within x j h)
+  keeps-at i e x j h = ⊎-elim same other (choice-cases p m i (next-within g n) x j h)
     where
       same : (x ≡ m) × (j ≡ i) → chosenAt s x ≡ suc j
       same r = rw (r .0, r .1) e
@@ -125,7 +123,8 @@ TriesOutcome n c t p m is (some r) =
 
 module _ (n : ℕ) (c : Catalogue) (t : Tries) (p : Selection) (m : ℕ) where
   -- a place that is given up, ahead of the others
-  given-up : (i : ℕ) (is : List ℕ) (x : Option Selection) → Refuted c (withChoice p m i) → TriesOutcome n c t p m is x → TriesOutcome n c t p m (i ∷ is) x
+  given-up : (i : ℕ) (is : List ℕ) (x : Option Selection) → Refuted c (withChoice p m i) → TriesOutcome n c t p m is x →
+      TriesOutcome n c t p m (i ∷ is) x
   unfolding ahead
   given-up i is none r h = all
     where
@@ -144,6 +143,7 @@ module _ (n : ℕ) (c : Catalogue) (t : Tries) (p : Selection) (m : ℕ) where
   unfolding ahead
   succeeded i is s o = (i, here refl, o, λ j x. absurd (not-nil (rw (eq-eqb i i refl) at x)))
 
+  -- the outcome of trying places in turn, where those that go on have theirs and the barred ones are refuted
   pub tries-outcome : (go : Selection → Searched) (is : List ℕ) →
       ((i : ℕ) → Mem i is → barring c p m i ≡ none → Outcome n c t (withChoice p m i) (go (withChoice p m i) .found)) →
       ((i k : ℕ) → barring c p m i ≡ some k → Refuted c (withChoice p m i)) →
@@ -183,14 +183,11 @@ module _ (c : Catalogue) (t : Tries) (w : WellFormed c) (τ : IsTries c t) where
       next : Next c p m
       next = next-first c p m ms e
 
-      within : m < length p
-      within = let f = next .fits in let z = g .size in omega arith
-
       kept : Keeps p s
-      kept x j z = h .2 .1 x j (choice-keeps p m (h .0) within (next .unset) x j z)
+      kept x j z = h .2 .1 x j (choice-keeps p m (h .0) (next-within g next) (next .unset) x j z)
 
       at : chosenAt s m ≡ suc (h .0)
-      at = h .2 .1 m (h .0) (chosen-new p m (h .0) within)
+      at = h .2 .1 m (h .0) (chosen-new p m (h .0) (next-within g next))
 
       earlier : (i : ℕ) → among i (ahead (t m) (chosenAt s m - 1)) ≡ true → Refuted c (withChoice p m i)
       earlier i a = h .3 i (among-mem i (ahead (t m) (h .0)) (subst (λ (y : ℕ). among i (ahead (t m) y) ≡ true) (omega (arith, at)) a))
@@ -198,9 +195,11 @@ module _ (c : Catalogue) (t : Tries) (w : WellFormed c) (τ : IsTries c t) where
       on : CertifiedFrom n c t s (set p m (chosenAt s m))
       on = rw at (h .2 .2)
 
+  -- with nothing next the partial selection itself is found
   done-outcome : (n : ℕ) (p : Selection) → Partial c p → nextModules c p ≡ [] → CertifiedFrom n c t p p → Outcome n c t p (some p)
   done-outcome n p g e x = (whole-valid c p w g e, λ m i h. h, x)
 
+  -- the outcome of the search
   pub search-outcome : (n : ℕ) (p : Selection) → Partial c p → countOf 0 p ≤ n → Outcome n c t p (searchFrom n c t p .found)
   unfolding searchFrom CertifiedFrom
   search-outcome zero p g z = done-outcome zero p g (all-set c p g z) tt

@@ -3,23 +3,26 @@
 use mathlib.Core.Path.{_≡_, refl, sym, _∙_, ap}
 use mathlib.Core.Logic.{⊎-elim}
 use mathlib.Core.Bool.{true}
-use mathlib.Core.List.{List, [], _∷_, _++_, flatMap, append-cancel-right, List·Memᴰ as Mem, List·Memᴰ·head as here, List·Memᴰ·tail as there, List·Memᴰ·eq-of-singleton}
+use mathlib.Core.List.{List, [], _∷_, _++_, flatMap, append-cancel-right, List·Memᴰ as Mem, List·Memᴰ·head as here, List·Memᴰ·tail as there}
+use mathlib.Core.List.{List·Memᴰ·eq-of-singleton}
 use Prim.Native.Nat.{ℕ, zero, suc, _+_, _*_, _-_, _/_, _%_, _<_}
 use native.Mathlib.Omega.{arith}
 use native.Mathlib.Nat.{not-suc-le-zero}
 use lib.Dec.{ltb, eqb}
-use borrow.Author.Tests.{ltb-true, eqb-true, lt-ltb}
+use borrow.Author.Tests.{ltb-true, lt-ltb}
 use lib.ListN.{length, drop}
 use lib.Seq.{drop-at, ext-getD}
 use Rattle.rules.specs.Lists.{below}
 use Rattle.rules.specs.Lines.{linesOf}
 use Rattle.rules.specs.Frames.{byteAt, versionAt, checked, frameText, versionBytes}
 use Rattle.rules.specs.Catalogue.{Catalogue, Version, versionAtPlace, isOf, isOlder, WellFormed, Carried}
-use Rattle.rules.specs.Selection.{Selection, chosenAt, isState, isValid, settled, selectedLine, selectionText}
+use Rattle.rules.specs.Selection.{Selection, chosenAt, settled, selectedLine, selectionText}
 use Rattle.rules.specs.Promises.{TextTells}
-use Rattle.rules.proofs.Lists.{and-fst, and-snd, or-cases, mem-keep, keep-mem, mem-flatMap, flatMap-mem, mem-below, below-mem, all-below}
+use Rattle.rules.proofs.Lists.{and-snd, or-cases, mem-keep, keep-mem, mem-flatMap, flatMap-mem, mem-below, below-mem}
+use Rattle.rules.proofs.Selections.{of-parts, Valid, valid-parts}
 use Rattle.rules.proofs.Written.{framesOf, frames-cons, frame-length}
 
+-- a version is read back from its three bytes
 version-read : (v : ℕ) → v / 65536 * 65536 + v / 256 % 256 * 256 + v % 256 ≡ v
 version-read v = omega arith
 
@@ -37,18 +40,12 @@ not-older u v p q e = ⊎-elim
     (or-cases (ltb (u .owner) (v .owner)) _ e)
 
 module _ (c : Catalogue) (w : WellFormed c) where
+  -- of two versions of one module with one value none stands later
   not-later : (m i j : ℕ) → isOf c m i ≡ true → isOf c m j ≡ true → versionAtPlace c i .value ≡ versionAtPlace c j .value → i < j → ⊥
-  unfolding isOf
-  not-later m i j p q e h = not-older (versionAtPlace c i) (versionAtPlace c j) (one ∙ sym other) e (w .rising i j h inside)
-    where
-      one : versionAtPlace c i .owner ≡ m
-      one = eqb-true _ m (and-snd (ltb i (length (c .versions))) _ p)
-
-      other : versionAtPlace c j .owner ≡ m
-      other = eqb-true _ m (and-snd (ltb j (length (c .versions))) _ q)
-
-      inside : j < length (c .versions)
-      inside = ltb-true j _ (and-fst _ _ q)
+  not-later m i j p q e h =
+      let one = of-parts c m i p in
+      let other = of-parts c m j q in
+      not-older (versionAtPlace c i) (versionAtPlace c j) (one .1 ∙ sym (other .1)) e (w .rising i j h (other .0))
 
   -- versions of one module with one value stand at one place
   same-place : (m i j : ℕ) → isOf c m i ≡ true → isOf c m j ≡ true → versionAtPlace c i .value ≡ versionAtPlace c j .value → i ≡ j
@@ -58,6 +55,7 @@ module _ (c : Catalogue) (w : WellFormed c) where
       omega arith
 
 module _ (c : Catalogue) where
+  -- the value of the version that a module is at, its line's bytes, and all lines
   abbrev valueAt : Selection → (owner : ℕ) → ℕ
   valueAt s m = versionAtPlace c (chosenAt s m - 1) .value
 
@@ -113,16 +111,8 @@ module _ (c : Catalogue) where
           let names = frame-names m k (valueAt s m) (valueAt o k) f in
           (rw (names .0) r, names .1 ∙ ap (valueAt o) (sym (names .0)))
 
-  valid-length : (s : Selection) → isValid c s ≡ true → length s ≡ c .modules
-  unfolding isValid
-  valid-length s p = eqb-true (length s) (c .modules) (search (and-fst, and-snd))
-
-  valid-place : (s : Selection) → isValid c s ≡ true → (m i : ℕ) → m < c .modules → chosenAt s m ≡ suc i → isOf c m i ≡ true
-  unfolding isValid
-  valid-place s p m i l k = rw k at (all-below (λ (x : ℕ). isState c x (chosenAt s x)) (search (and-fst, and-snd)) l)
-
   -- what one chooses the other chooses too
-  choice-told : WellFormed c → Carried c → (s o : Selection) → isValid c s ≡ true → isValid c o ≡ true → selectionText c s ≡ selectionText c o →
+  choice-told : WellFormed c → Carried c → (s o : Selection) → Valid c s → Valid c o → selectionText c s ≡ selectionText c o →
       (m : ℕ) → m < c .modules → (i : ℕ) → chosenAt s m ≡ suc i → chosenAt o m ≡ suc i
   choice-told w h s o p q e m l i k = go (chosenAt o m) refl
     where
@@ -137,7 +127,7 @@ module _ (c : Catalogue) where
 
       go : (x : ℕ) → chosenAt o m ≡ x → chosenAt o m ≡ suc i
       go zero r = absurd (not-suc-le-zero (rw r at some))
-      go (suc j) r = r ∙ ap suc (sym (same-place c w m i j (valid-place s p m i l k) (valid-place o q m j l r) values))
+      go (suc j) r = r ∙ ap suc (sym (same-place c w m i j (p .states m i k) (q .states m j r) values))
         where
           values : versionAtPlace c i .value ≡ versionAtPlace c j .value
           values = ap (λ (x : ℕ). versionAtPlace c x .value) (omega arith) ∙ told .1 ∙ ap (λ (x : ℕ). versionAtPlace c x .value) (omega arith)
@@ -148,13 +138,17 @@ same-state zero zero f g = refl
 same-state zero (suc j) f g = g j refl
 same-state (suc i) y f g = sym (f i refl)
 
+-- two valid selections of one catalogue never share a text
 pub text-tells : TextTells
-text-tells c s o w h p q e = ext-getD 0 s o (long ∙ sym (valid-length c o q)) same
+text-tells c s o w h p q e = ext-getD 0 s o (ours .size ∙ sym (theirs .size)) same
   where
-    long : length s ≡ c .modules
-    long = valid-length c s p
+    ours : Valid c s
+    ours = valid-parts c s p
+
+    theirs : Valid c o
+    theirs = valid-parts c o q
 
     same : (m : ℕ) → m < length s → chosenAt s m ≡ chosenAt o m
     same m l =
-        let known = rw long at l in
-        same-state (chosenAt s m) (chosenAt o m) (choice-told c w h s o p q e m known) (choice-told c w h o s q p (sym e) m known)
+        let known : m < c .modules = rw (ours .size) at l in
+        same-state (chosenAt s m) (chosenAt o m) (choice-told c w h s o ours theirs e m known) (choice-told c w h o s theirs ours (sym e) m known)

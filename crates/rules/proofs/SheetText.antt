@@ -11,11 +11,14 @@ use borrow.Author.Tests.{ltb-true, leb-true, eqb-true, eqb-false, ne-eqb}
 use lib.ListN.{length, length-append}
 use Rattle.rules.specs.Lists.{isIn, upFrom, below}
 use Rattle.rules.specs.Lines.{fine, Line, linesOf}
-use Rattle.rules.specs.Frames.{frameOf, byteAt, kindOf, pairAt, kinds, rowIn, digitsFor, sheets, lineFault, faultOf, checked, frameText, pairBytes}
+use Rattle.rules.specs.Frames.{frameOf, byteAt, kindOf, pairAt, kinds, rowIn, digitsFor, sheets, lineFault, faultOf, checked, frameText}
+use Rattle.rules.specs.Frames.{pairBytes}
 use Rattle.rules.specs.Catalogue.{Catalogue, Carried}
-use Rattle.rules.specs.Sheet.{Entry, cites, resolves, entryFits, entriesFit, refutes, lastLine, mostLines, isRefuting, isSheetHead, isNeedLine, isResolved, isSheetEnd, entryIn, SheetReading, sheetReading, sheetOrderFits, sheetContentFits, withSheetFrame, sheetReader, sheetFault, entryText, sheetText}
+use Rattle.rules.specs.Sheet.{Entry, cites, resolves, entryFits, entriesFit, refutes, lastLine, mostLines, isRefuting, isSheetHead, isNeedLine}
+use Rattle.rules.specs.Sheet.{isResolved, isSheetEnd, entryIn, SheetReading, sheetReading, sheetOrderFits, sheetContentFits, withSheetFrame}
+use Rattle.rules.specs.Sheet.{sheetReader, sheetFault, entryText, sheetText}
 use Rattle.rules.specs.Promises.{AcceptsExactly}
-use Rattle.rules.proofs.Lists.{and-fst, and-snd, and-both, or-cases}
+use Rattle.rules.proofs.Lists.{and-fst, and-snd, and-both, or-cases, length-last}
 use Rattle.rules.proofs.Readers.{Run, stop, step, orElse-none, unless-none, good-line, fine-text, run-text, run-keeps}
 use Rattle.rules.proofs.Written.{Bytes, lineText, lines-text, frame-length, frame-step, good-bytes, good-text}
 
@@ -33,6 +36,7 @@ entry-text (resolves a b m) = refl
 pair-written : (a b : ℕ) → b < 256 → ((a * 256 + b) / 256 ≡ a) × ((a * 256 + b) % 256 ≡ b)
 pair-written a b h = (omega arith, omega arith)
 
+-- a frame of a need line or a resolved line
 abbrev isEntry : (frame : List ℕ) → Bool
 isEntry f = isNeedLine f || isResolved f
 
@@ -44,20 +48,20 @@ module _ (f : List ℕ) (e : isEntry f ≡ true) where
   entry-only : (isSheetHead f ≡ false) × (isSheetEnd f ≡ false)
   entry-only = ⊎-elim (λ p. rw p (refl, refl)) (λ p. rw p (refl, refl)) entry-kind
 
+  -- it adds its entry, and one line less is due
   entry-after : (s : SheetReading) → withSheetFrame s f ≡ sheetReading 1 (s .due - 1) (s .entries ++ (entryIn f ∷ []))
   unfolding withSheetFrame
   entry-after s = rw (entry-only .0, entry-only .1)
 
+  -- its content fits if its entry does
   entry-content : (c : Catalogue) (s : SheetReading) → sheetContentFits c s f ≡ entryFits c (length (s .entries)) (entryIn f)
   unfolding sheetContentFits
   entry-content c s = rw (entry-only .0, entry-only .1)
 
+-- the end changes only where the reader stands
 end-after : (f : List ℕ) → kindOf f ≡ 36 → (s : SheetReading) → withSheetFrame s f ≡ sheetReading 2 0 (s .entries)
 unfolding withSheetFrame
 end-after f k s = rw k
-
-length-last : {A : Type 0} (xs : List A) (x : A) → length (xs ++ (x ∷ [])) ≡ suc (length xs)
-length-last xs x = rw length-append (omega arith)
 
 module _ (c : Catalogue) where
   -- FROM A RUN TO THE TEXT
@@ -68,6 +72,7 @@ module _ (c : Catalogue) where
     bytes : (i : ℕ) → byteAt (frameOf (l .digits)) i < 256
     text : (n : ℕ) → digitsFor sheets (kindOf (frameOf (l .digits))) ≡ 2 * n + 2 → lineText l ≡ frameText (map (byteAt (frameOf (l .digits))) (below n))
 
+  -- each part of a line that has no fault
   taken-line : (s : SheetReading) (l : Line) → lineFault (sheetReader c) s l ≡ 0 → Taken s l
   taken-line s l e =
       let good = good-line (sheetReader c) s l e in
@@ -113,6 +118,7 @@ module _ (c : Catalogue) where
     fits : entriesFit c (length (s .entries)) due ≡ true
     count : length due ≡ s .due
 
+  -- a run in the body is through the entries that are due and the end
   rest-of-run : {s u : SheetReading} {ls : List Line} → Run (sheetReader c) s ls u → s .stands ≡ 1 → Rest s ls u
   unfolding kinds rowIn upFrom flatMap entriesFit sheetOrderFits
   rest-of-run (stop {s} e z) h = absurd (false≢true (rw h at e))
@@ -207,6 +213,7 @@ module _ (c : Catalogue) where
     digits : digitsFor sheets (kindOf (checked (entryBytes e))) ≡ 2 * length (entryBytes e) + 2
     read : entryIn (checked (entryBytes e)) ≡ e
 
+  -- an entry that fits has such a frame
   entry-frame : Carried c → (i : ℕ) → i ≤ mostLines → (e : Entry) → entryFits c i e ≡ true → EntryFrame e
   unfolding kinds rowIn
   entry-frame h i m (cites k) e =
@@ -267,6 +274,7 @@ module _ (c : Catalogue) where
           let less : suc (length es) - 1 ≡ length es = omega arith in
           entry-after f (x-frame .kind) (sheetReading 1 (suc (length es)) before) ∙ rw (less, x-frame .read) refl
 
+  -- a refuting sheet has no more lines than a sheet can have
   few-lines : (es : List Entry) → isRefuting c es ≡ true → length es ≤ mostLines
   unfolding isRefuting
   few-lines es e = leb-true (length es) mostLines (search (and-fst, and-snd))
@@ -306,10 +314,12 @@ entries-length (e ∷ es) =
     let rest = entries-length es in
     rw length-append (omega arith)
 
+-- the text of the longest sheet, in bytes
 sheet-length : (es : List Entry) → length es ≤ mostLines → length (sheetText es) ≤ 7214
 unfolding sheetText
 sheet-length es h = let rest = entries-length es in simp (length-append, frame-length) (omega arith)
 
+-- the checker accepts exactly the texts of refuting sheets
 pub accepts-exactly : AcceptsExactly
 accepts-exactly l c t h g = (told, accepted)
   where

@@ -1,26 +1,31 @@
--- The sheet of a failing search: its lines fit, its last line blocks what the search began with, and it has 2W + 1 lines (search-derives).
--- Assumes nothing.
+-- The sheet of a failing search: its lines fit, its last line blocks what the search began with, and it has 2W + 1 lines (search-derives). The last
+-- lemma says that what blocks the root alone refutes. Assumes nothing.
 use mathlib.Core.Path.{_≡_, refl, sym, _∙_, ap, subst, subst₂}
 use mathlib.Core.Logic.{_⊎_, inl, inr, ⊎-elim, _≢_}
-use mathlib.Core.Bool.{Bool, true, false, _&&_, _||_, not, cond, false≢true}
-use mathlib.Core.List.{List, [], _∷_, _++_, List·Memᴰ as Mem, List·Memᴰ·head as here, List·Memᴰ·tail as there, List·Memᴰ·not-nil as not-nil, List·Memᴰ·eq-of-singleton}
+use mathlib.Core.Bool.{true, false, _||_, not}
+use mathlib.Core.List.{List, [], _∷_, _++_, List·Memᴰ as Mem, List·Memᴰ·head as here, List·Memᴰ·tail as there, List·Memᴰ·not-nil as not-nil}
+use mathlib.Core.List.{List·Memᴰ·eq-of-singleton}
 use mathlib.Core.Option.{Option, none, some, Option·none-ne-some, Option·getD}
 use Prim.Native.Nat.{ℕ, zero, suc, _+_, _*_, _-_, _≤_, _<_}
 use native.Mathlib.Omega.{arith}
-use lib.Dec.{eqb, ltb}
-use lib.ListN.{length, getD, length-append, List·getD-append}
+use lib.Dec.{eqb}
+use lib.ListN.{length, getD, length-append}
 use lib.Seq.{getD-append-seam, getD-at}
-use borrow.Author.Tests.{eq-eqb, ne-eqb, eqb-true, lt-ltb, not-true}
-use Rattle.rules.specs.Lists.{any, firstOf, countOf, below}
-use Rattle.rules.specs.Catalogue.{Catalogue, versionAtPlace, needAt, needyOf, isOf, placesOf, inRange, WellFormed}
-use Rattle.rules.specs.Selection.{Selection, chosenAt, withChoice, rootOnly, asked, meets, isAsked, nextModules}
-use Rattle.rules.specs.Search.{Tries, IsTries, leavesOut, bars, barring, Searched, searched, trialBy, andThen, tryEach, searchFrom}
-use Rattle.rules.specs.Sheet.{Incompatibility, noIncompatibility, isFull, blocksAt, blocks, needLine, resolved, refutes, Entry, cites, resolves, lineOf, linesFrom, entryFits, entriesFit, trialLines, triesLines, asking, searchLines}
-use Rattle.rules.proofs.Lists.{and-both, or-fst, or-snd, not-both, true-or-false, mem-all, any-mem, first-mem, first-none, below-all, same-or-not, longer}
-use Rattle.rules.proofs.Selections.{suc-not-zero, chosen-lt, chosen-new, chosen-old, absent-or-at, of-parts, places-mem, Asked, asked-mem, Next, next-first}
-use Rattle.rules.proofs.Partials.{leavesOut-parts, bars-cases, root-chosen, root-place, root-only, root-fits, start-unset, Partial, choice-cases, choice-keeps, choice-partial}
-use Rattle.rules.proofs.Searches.{next-cases, search-done, search-next, tried, try-of, fewer, all-set}
-use Rattle.rules.proofs.Incompatibilities.{need-needy, need-target, need-other, resolved-at, resolved-off, lines-length, lines-earlier, lines-append, fit-append, state-full, full-state}
+use borrow.Author.Tests.{eq-eqb, eqb-true, lt-ltb, not-true}
+use Rattle.rules.specs.Lists.{firstOf, countOf}
+use Rattle.rules.specs.Catalogue.{Catalogue, needAt, needyOf, isOf, placesOf, inRange, WellFormed}
+use Rattle.rules.specs.Selection.{Selection, chosenAt, withChoice, rootOnly, asked, isAsked, nextModules}
+use Rattle.rules.specs.Search.{Tries, IsTries, leavesOut, bars, barring, Searched, trialBy, andThen, tryEach, searchFrom}
+use Rattle.rules.specs.Sheet.{Incompatibility, noIncompatibility, isFull, blocksAt, needLine, resolved, refutes, Entry, cites, resolves, lineOf}
+use Rattle.rules.specs.Sheet.{linesFrom, entryFits, entriesFit, trialLines, triesLines, asking, searchLines}
+use Rattle.rules.proofs.Lists.{and-both, or-fst, or-snd, not-both, mem-all, any-mem, first-mem, first-none, below-all, same-or-not, longer}
+use Rattle.rules.proofs.Lists.{length-last}
+use Rattle.rules.proofs.Selections.{chosen-new, chosen-old, of-parts, Asked, asked-mem, Next, next-first}
+use Rattle.rules.proofs.Partials.{leavesOut-parts, bars-cases, root-chosen, root-fits, start-unset, Partial, next-within, choice-keeps}
+use Rattle.rules.proofs.Partials.{choice-states, choice-partial}
+use Rattle.rules.proofs.Searches.{next-cases, search-done, search-next, tried, try-of, fewer}
+use Rattle.rules.proofs.Incompatibilities.{need-needy, need-target, need-other, resolved-at, resolved-off, lines-length, lines-earlier}
+use Rattle.rules.proofs.Incompatibilities.{lines-append, fit-append, state-full, full-state}
 
 -- BLOCKING, module by module
 abbrev pub Blocks : Catalogue → Incompatibility → Selection → Type 0
@@ -31,6 +36,7 @@ blocks-all : (c : Catalogue) (f : Incompatibility) (m x : ℕ) → ((y : ℕ) �
 blocks-all c f m zero h = state-full c f m (h 0) (λ i e. h (suc i))
 blocks-all c f m (suc i) h = h (suc i)
 
+-- a set that holds the chosen version blocks
 blocks-chosen : (c : Catalogue) (f : Incompatibility) (m : ℕ) {x i : ℕ} → x ≡ suc i → f m (suc i) ≡ true → blocksAt c f m x ≡ true
 blocks-chosen c f m e h = rw e h
 
@@ -51,17 +57,12 @@ need-blocks c k q m e n = ⊎-elim needy other (same-or-not m (needyOf c k))
 needy-of : (c : Catalogue) (q : Selection) (k : ℕ) → ((m i : ℕ) → chosenAt q m ≡ suc i → isOf c m i ≡ true) → (a : Asked c q k) → needyOf c k ≡ a .needy
 needy-of c q k states a = of-parts c (a .needy) _ (states _ _ (a .chosen)) .1
 
+-- so that module has the needing version
 needy-chosen : (c : Catalogue) (q : Selection) (k : ℕ) → ((m i : ℕ) → chosenAt q m ≡ suc i → isOf c m i ≡ true) → Asked c q k →
     chosenAt q (needyOf c k) ≡ suc (needAt c k .version)
 needy-chosen c q k states a = ap (λ (m : ℕ). chosenAt q m) (needy-of c q k states a) ∙ a .chosen
 
 module _ (c : Catalogue) (p : Selection) (m i : ℕ) (w : WellFormed c) (g : Partial c p) (n : Next c p m) (o : isOf c m i ≡ true) where
-  within : m < length p
-  within = let f = n .fits in let z = g .size in omega arith
-
-  states : (k j : ℕ) → chosenAt (withChoice p m i) k ≡ suc j → isOf c k j ≡ true
-  states k j e = ⊎-elim (λ r. rw (r .0, r .1) o) (λ r. g .states k j (r .1)) (choice-cases p m i within k j e)
-
   -- the need that bars a choice, as a line, blocks it
   barred-blocks : (k : ℕ) → barring c p m i ≡ some k → Blocks c (needLine c k) (withChoice p m i)
   unfolding barring
@@ -74,7 +75,7 @@ module _ (c : Catalogue) (p : Selection) (m i : ℕ) (w : WellFormed c) (g : Par
       a = asked-mem c (withChoice p m i) (hit .0)
 
       chosen : chosenAt (withChoice p m i) (needyOf c k) ≡ suc (needAt c k .version)
-      chosen = needy-chosen c (withChoice p m i) k states a
+      chosen = needy-chosen c (withChoice p m i) k (choice-states c p m i w g n o) a
 
       -- the version at the needed module lies outside
       outside : (j : ℕ) × (chosenAt (withChoice p m i) (needAt c k .target) ≡ suc j) × (inRange c (needAt c k) j ≡ false)
@@ -84,17 +85,18 @@ module _ (c : Catalogue) (p : Selection) (m i : ℕ) (w : WellFormed c) (g : Par
               (j : ℕ) × (chosenAt (withChoice p m i) (needAt c k .target) ≡ suc j) × (inRange c (needAt c k) j ≡ false)
           own r =
               let l = leavesOut-parts c k _ (r .1) in
-              (l .0, choice-keeps p m i within (n .unset) _ _ (l .1), l .2)
+              (l .0, choice-keeps p m i (next-within g n) (n .unset) _ _ (l .1), l .2)
 
           named : (needAt c k .version ≢ i) × (needAt c k .target ≡ m) × (leavesOut c k (suc i) ≡ true) →
               (j : ℕ) × (chosenAt (withChoice p m i) (needAt c k .target) ≡ suc j) × (inRange c (needAt c k) j ≡ false)
-          named r = (i, subst (λ (y : ℕ). chosenAt (withChoice p m i) y ≡ suc i) (sym (r .1)) (chosen-new p m i within), not-true _ (r .2))
+          named r = (i, subst (λ (y : ℕ). chosenAt (withChoice p m i) y ≡ suc i) (sym (r .1)) (chosen-new p m i (next-within g n)), not-true _ (r .2))
 
       target : x ≡ needAt c k .target → blocksAt c (needLine c k) x (chosenAt (withChoice p m i) x) ≡ true
       target z =
           blocks-chosen c (needLine c k) x (ap (λ (y : ℕ). chosenAt (withChoice p m i) y) z ∙ outside .1)
           (need-target c k x _ (λ y. w .others k (a .isNeed) (sym z ∙ y)) z ∙ ap not (outside .2))
 
+-- what bars a choice is a need
 barring-need : (c : Catalogue) (p : Selection) (m i k : ℕ) → barring c p m i ≡ some k → k < length (c .needs)
 unfolding barring
 barring-need c p m i k e =
@@ -131,15 +133,16 @@ asking-pending c t p m k w τ g n b = (a .isNeed, record { elsewhere = elsewhere
     given i o = inr (tried c t τ m i (n .fits) o)
 
 -- two lines that block at another module block there once resolved
-both-block : (c : Catalogue) (f h : Incompatibility) (m k x : ℕ) → k ≢ m → blocksAt c f k x ≡ true → blocksAt c h k x ≡ true → blocksAt c (resolved m f h) k x ≡ true
+both-block : (c : Catalogue) (f h : Incompatibility) (m k x : ℕ) → k ≢ m → blocksAt c f k x ≡ true → blocksAt c h k x ≡ true →
+    blocksAt c (resolved m f h) k x ≡ true
 both-block c f h m k zero n p q =
     state-full c (resolved m f h) k (resolved-off m f h k 0 n ∙ and-both (full-state c f k 0 p refl) (full-state c h k 0 q refl))
     (λ i o. resolved-off m f h k (suc i) n ∙ and-both (full-state c f k (suc i) p o) (full-state c h k (suc i) q o))
 both-block c f h m k (suc i) n p q = resolved-off m f h k (suc i) n ∙ and-both p q
 
 -- a line that blocks the choice of one of them is taken in by resolution
-resolved-pending : (c : Catalogue) (f h : Incompatibility) (p : Selection) (m i : ℕ) (is : List ℕ) → m < length p → m < c .modules → Pending c f p m (i ∷ is) →
-    Blocks c h (withChoice p m i) → Pending c (resolved m f h) p m is
+resolved-pending : (c : Catalogue) (f h : Incompatibility) (p : Selection) (m i : ℕ) (is : List ℕ) → m < length p → m < c .modules →
+    Pending c f p m (i ∷ is) → Blocks c h (withChoice p m i) → Pending c (resolved m f h) p m is
 resolved-pending c f h p m i is l z q b = record { elsewhere = elsewhere; absent = absent; given = λ j o. given j (q .given j o) }
   where
     elsewhere : (k : ℕ) → k < c .modules → k ≢ m → blocksAt c (resolved m f h) k (chosenAt p k) ≡ true
@@ -181,7 +184,9 @@ record TrialDerives (c : Catalogue) (fs : List Incompatibility) (es : List Entry
   derives : Derives c fs es q
   count : length es + 1 ≡ 2 * trials
 
-barred-derives : (c : Catalogue) (fs : List Incompatibility) (k : ℕ) (q : Selection) → k < length (c .needs) → Blocks c (needLine c k) q → TrialDerives c fs (cites k ∷ []) q 1
+-- a barred trial derives that its choice is blocked by citing the need that bars it
+barred-derives : (c : Catalogue) (fs : List Incompatibility) (k : ℕ) (q : Selection) → k < length (c .needs) → Blocks c (needLine c k) q →
+    TrialDerives c fs (cites k ∷ []) q 1
 unfolding entriesFit linesFrom
 barred-derives c fs k q l b =
     record {
@@ -202,14 +207,15 @@ module _ (c : Catalogue) (fs : List Incompatibility) (ls : List Entry) (e : Entr
 
   after-length : length after ≡ suc (length fs + length ls)
   unfolding after before
-  after-length = length-append (linesFrom c fs ls) _ ∙ omega (arith, lines-length c fs ls)
+  after-length = length-last (linesFrom c fs ls) _ ∙ ap suc (lines-length c fs ls)
 
   after-last : getD after (length fs + length ls) noIncompatibility ≡ lineOf c before e
   unfolding after before
   after-last = getD-at (linesFrom c fs ls) _ [] noIncompatibility (length fs + length ls) (lines-length c fs ls)
 
-  derives-join : (es : List Entry) (p : Selection) → entriesFit c (length fs) ls ≡ true → entryFits c (length fs + length ls) e ≡ true → Derives c after es p →
-      Derives c fs (ls ++ (e ∷ es)) p
+  -- lines that fit, a line that fits after them, and what is derived after both
+  derives-join : (es : List Entry) (p : Selection) → entriesFit c (length fs) ls ≡ true → entryFits c (length fs + length ls) e ≡ true →
+      Derives c after es p → Derives c fs (ls ++ (e ∷ es)) p
   unfolding entriesFit linesFrom after before
   derives-join es p f g d =
       record {
@@ -217,17 +223,19 @@ module _ (c : Catalogue) (fs : List Incompatibility) (ls : List Entry) (e : Entr
             fit-append c (length fs) ls (e ∷ es) f
             (and-both g (subst (λ (k : ℕ). entriesFit c k es ≡ true) after-length (d .fits)));
         blocks =
-            subst₂ (λ (gs : List Incompatibility) (k : ℕ). Blocks c (getD gs k noIncompatibility) p) (sym (lines-append c fs ls (e ∷ es))) same (d .blocks);
+            subst₂ (λ (gs : List Incompatibility) (k : ℕ). Blocks c (getD gs k noIncompatibility) p) (sym (lines-append c fs ls (e ∷ es))) same
+            (d .blocks);
       }
     where
       same : length after + length es - 1 ≡ length fs + length (ls ++ (e ∷ es)) - 1
       same = omega (arith, after-length, length-append ls (e ∷ es))
 
--- a failed trial and the rest: both failed, and the trials add up
+-- a failed trial and the rest: both failed
 then-none : (x : Option Selection) (n : ℕ) (b : Searched) → andThen x n b .found ≡ none → (x ≡ none) × (b .found ≡ none)
 then-none none n b e = (refl, e)
 then-none (some s) n b e = absurd (Option·none-ne-some _ (sym e))
 
+-- the trials of a failed trial and of the rest add up
 then-trials : (x : Option Selection) (n : ℕ) (b : Searched) → x ≡ none → andThen x n b .trials ≡ n + b .trials
 then-trials x n b e = rw e
 
@@ -238,21 +246,25 @@ Fails c p m search lines i =
     TrialDerives c fs (trialLines (barring c p m i) lines (withChoice p m i) (length fs)) (withChoice p m i)
     (trialBy (barring c p m i) search (withChoice p m i) .trials)
 
+-- the lines of a place's tries derive that p is blocked, in two lines a trial
+abbrev TriesDerive : Catalogue → Selection → (owner : ℕ) → (Selection → Searched) → (Selection → ℕ → List Entry) → (places : List ℕ) → (came at : ℕ) →
+    List Incompatibility → Type 0
+TriesDerive c p m search lines is a k fs =
+    Derives c fs (triesLines c lines p m a k is) p × (length (triesLines c lines p m a k is) ≡ 2 * tryEach c search p m is .trials)
+
 module _ (c : Catalogue) (p : Selection) (m : ℕ) (l : m < length p) (z : m < c .modules) (u : chosenAt p m ≡ 0)
     (search : Selection → Searched) (lines : Selection → ℕ → List Entry) where
   abbrev trial : ℕ → Searched
   trial i = trialBy (barring c p m i) search (withChoice p m i)
 
-  -- the lines and the trials of a place's tries
-  abbrev TriesDerive : List ℕ → ℕ → List Incompatibility → Type 0
-  TriesDerive is a fs =
-      Derives c fs (triesLines c lines p m a (length fs) is) p × (length (triesLines c lines p m a (length fs) is) ≡ 2 * tryEach c search p m is .trials)
+  abbrev Derive : List ℕ → (came at : ℕ) → List Incompatibility → Type 0
+  Derive = TriesDerive c p m search lines
 
   -- what follows a trial's lines and the line that resolves them
   trial-then : (i : ℕ) (is : List ℕ) (a : ℕ) (fs : List Incompatibility) → length fs ≡ suc a → Pending c (getD fs a noIncompatibility) p m (i ∷ is) →
       trial i .found ≡ none → Fails c p m search lines i →
-      ((b : ℕ) (gs : List Incompatibility) → length gs ≡ suc b → Pending c (getD gs b noIncompatibility) p m is → TriesDerive is b gs) →
-      TriesDerive (i ∷ is) a fs
+      ((b : ℕ) (gs : List Incompatibility) → length gs ≡ suc b → Pending c (getD gs b noIncompatibility) p m is → Derive is b (length gs) gs) →
+      Derive (i ∷ is) a (length fs) fs
   unfolding tryEach triesLines before
   trial-then i is a fs n q given-up fails rest = (derives-join c fs ls e more p (t .derives .fits) fits (next .0), count)
     where
@@ -288,9 +300,9 @@ module _ (c : Catalogue) (p : Selection) (m : ℕ) (l : m < length p) (z : m < c
           subst (λ (f : Incompatibility). Pending c f p m is) (sym (after-last c fs ls e ∙ ap (λ (f : Incompatibility). resolved m f last) kept))
           (resolved-pending c (getD fs a noIncompatibility) last p m i is l z q (t .derives .blocks))
 
-      next : Derives c gs more p × (length more ≡ 2 * tryEach c search p m is .trials)
+      next : Derive is (length fs + length ls) (suc (length fs + length ls)) gs
       next =
-          subst (λ (k : ℕ). Derives c gs (triesLines c lines p m (length fs + length ls) k is) p × (length (triesLines c lines p m (length fs + length ls) k is) ≡ 2 * tryEach c search p m is .trials))
+          subst (λ (k : ℕ). Derive is (length fs + length ls) k gs)
           (after-length c fs ls e) (rest (length fs + length ls) gs (after-length c fs ls e) pending)
 
       count : length (ls ++ (e ∷ more)) ≡ 2 * andThen (trial i .found) (trial i .trials) (tryEach c search p m is) .trials
@@ -298,8 +310,9 @@ module _ (c : Catalogue) (p : Selection) (m : ℕ) (l : m < length p) (z : m < c
           rw (then-trials (trial i .found) (trial i .trials) (tryEach c search p m is) given-up)
           (omega (arith, length-append ls (e ∷ more), t .count, next .1))
 
+  -- a place whose trials all fail derives that p is blocked
   tries-derive : (is : List ℕ) → ((i : ℕ) → Mem i is → Fails c p m search lines i) → tryEach c search p m is .found ≡ none →
-      (a : ℕ) (fs : List Incompatibility) → length fs ≡ suc a → Pending c (getD fs a noIncompatibility) p m is → TriesDerive is a fs
+      (a : ℕ) (fs : List Incompatibility) → length fs ≡ suc a → Pending c (getD fs a noIncompatibility) p m is → Derive is a (length fs) fs
   unfolding tryEach triesLines linesFrom entriesFit
   tries-derive [] fails e a fs n q = (
     record {
@@ -315,6 +328,7 @@ module _ (c : Catalogue) (p : Selection) (m : ℕ) (l : m < length p) (z : m < c
 
 -- THE SEARCH and its lines
 module _ (n : ℕ) (c : Catalogue) (t : Tries) (p : Selection) (at : ℕ) where
+  -- the lines of a search are those of its next module's place
   lines-next : (m : ℕ) (ms : List ℕ) → nextModules c p ≡ m ∷ ms →
       searchLines (suc n) c t p at ≡ cites (Option·getD (asking c p m) 0) ∷ triesLines c (searchLines n c t) p m at (suc at) (t m)
   unfolding searchLines
@@ -362,6 +376,7 @@ module _ (c : Catalogue) (t : Tries) (w : WellFormed c) (τ : IsTries c t) where
           let d = deeper e f fs in
           record { derives = d .0; count = omega (arith, d .1) }
 
+  -- the sheet of a failing search
   pub search-derives : (n : ℕ) (p : Selection) → Partial c p → countOf 0 p ≤ n → searchFrom n c t p .found ≡ none → SearchDerives n c t p
   unfolding searchFrom
   search-derives zero p g z e fs = absurd (Option·none-ne-some _ (sym e))
@@ -395,7 +410,7 @@ module _ (c : Catalogue) (t : Tries) (w : WellFormed c) (τ : IsTries c t) where
           gs = longer fs (needLine c (ask .0))
 
           one-more-line : length gs ≡ suc (length fs)
-          one-more-line = length-append fs _ ∙ omega arith
+          one-more-line = length-last fs _
 
           rest : List Entry
           rest = triesLines c (searchLines n c t) p m (length fs) (suc (length fs)) (t m)
@@ -409,11 +424,14 @@ module _ (c : Catalogue) (t : Tries) (w : WellFormed c) (τ : IsTries c t) where
           found : tryEach c (searchFrom n c t) p m (t m) .found ≡ none
           found = sym (ap (λ (r : Searched). r .found) (search-next n c t p m ms d)) ∙ e
 
-          tries : Derives c gs rest p × (length rest ≡ 2 * tryEach c (searchFrom n c t) p m (t m) .trials)
+          PlaceDerives : ℕ → Type 0
+          PlaceDerives k = TriesDerive c p m (searchFrom n c t) (searchLines n c t) (t m) (length fs) k gs
+
+          tries : PlaceDerives (suc (length fs))
           tries =
-              subst (λ (k : ℕ). Derives c gs (triesLines c (searchLines n c t) p m (length fs) k (t m)) p × (length (triesLines c (searchLines n c t) p m (length fs) k (t m)) ≡ 2 * tryEach c (searchFrom n c t) p m (t m) .trials))
+              subst PlaceDerives one-more-line
+              (tries-derive c p m (next-within g first) (first .fits) (first .unset) (searchFrom n c t) (searchLines n c t) (t m) fails found (length fs) gs
               one-more-line
-              (tries-derive c p m (let f = first .fits in let l = g .size in omega arith) (first .fits) (first .unset) (searchFrom n c t) (searchLines n c t) (t m) fails found (length fs) gs one-more-line
               (subst (λ (f : Incompatibility). Pending c f p m (t m)) (sym (getD-append-seam fs _ [] noIncompatibility)) (begun .1)))
 
 -- what blocks the start refutes

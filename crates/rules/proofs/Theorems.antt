@@ -1,25 +1,27 @@
 -- The theorems about the rules, under the names of the promises in specs/Promises.antt and of the claim in specs/Samples.antt. Assumes nothing.
-use mathlib.Core.Path.{_≡_, refl, sym, _∙_, ap, subst}
+use mathlib.Core.Path.{_≡_, refl, _∙_, subst}
 use mathlib.Core.Bool.{Bool, true, false, cond}
-use mathlib.Core.Logic.{_⊎_, inl, inr, ⊎-elim}
-use mathlib.Core.List.{List, [], _∷_, List·Memᴰ as Mem, List·Memᴰ·not-nil as not-nil}
-use mathlib.Core.Option.{Option, none, some, Option·none-ne-some}
-use Prim.Native.Nat.{ℕ, zero, suc, _+_, _*_, _-_, _≤_, _<_}
+use mathlib.Core.Logic.{⊎-elim}
+use mathlib.Core.List.{List, [], List·Memᴰ as Mem}
+use mathlib.Core.Option.{Option, none, some}
+use Prim.Native.Nat.{ℕ, _+_, _*_, _-_, _≤_, _<_}
 use native.Mathlib.Omega.{arith}
 use native.Mathlib.Nat.{not-suc-le-zero}
-use lib.Dec.{eqb, ltb, leb}
+use lib.Dec.{eqb, ltb}
 use lib.ListN.{length, getD}
-use borrow.Author.Tests.{lt-ltb, le-leb, leb-true, ltb-true, eq-eqb, ne-eqb, eqb-true}
-use Rattle.rules.specs.Lists.{ahead, keep, downFrom, upFrom, countOf, isIn}
-use Rattle.rules.specs.Catalogue.{Catalogue, versionAtPlace, isOf, isOlder, placesOf, WellFormed}
-use Rattle.rules.specs.Selection.{Selection, chosenAt, rootOnly, isValid, isAsked, nextModules, choice, orderFrom, orderOf}
-use Rattle.rules.specs.Search.{Tries, IsTries, newestFirst, search, searchFrom, best, trialsOf, isAheadBy, isTriedFirst, isNewer, Certified, CertifiedFrom}
-use Rattle.rules.specs.Sheet.{Incompatibility, noIncompatibility, isFull, blocksAt, refutes, isInside, Entry, entriesFit, derived, linesFrom, lastLine, isRefuting, mostLines, sheetOf, searchLines}
-use Rattle.rules.specs.Promises.{SomeValid, ReadsWellFormed, NewestFirstTries, FindsValid, PicksValid, FactsHold, SheetsTell, AcceptsExactly, FindsFirst, PicksBest, FindsCertified, OrderWhole, NextIsLowest, TextTells}
+use borrow.Author.Tests.{lt-ltb, le-leb, leb-true, ltb-true, eq-eqb}
+use Rattle.rules.specs.Lists.{ahead, downFrom, countOf}
+use Rattle.rules.specs.Catalogue.{Catalogue, versionAtPlace, isOf, isOlder, WellFormed}
+use Rattle.rules.specs.Selection.{Selection, rootOnly, nextModules}
+use Rattle.rules.specs.Search.{Tries, IsTries, newestFirst, search, best, trialsOf, isTriedFirst, isNewer, Certified}
+use Rattle.rules.specs.Sheet.{noIncompatibility, isInside, Entry, derived, lastLine, isRefuting, mostLines, sheetOf}
+use Rattle.rules.specs.Promises.{SomeValid, ReadsWellFormed, NewestFirstTries, FindsValid, PicksValid, FactsHold, SheetsTell, AcceptsExactly}
+use Rattle.rules.specs.Promises.{FindsFirst, PicksBest, FindsCertified, OrderWhole, NextIsLowest, TextTells}
 use Rattle.rules.specs.Samples.{Samples}
-use Rattle.rules.proofs.Lists.{and-fst, and-snd, and-both, or-cases, or-fst, or-snd, true-or-false, not-both, mem-all, count-keep, count-downFrom, ahead-mem, ahead-greater, mem-among, among-mem, same-false, keep-least, mem-below, below-all, keep-mem}
-use Rattle.rules.proofs.Selections.{of-parts, places-mem, Next, next-first, Valid, valid-parts, parts-valid}
-use Rattle.rules.proofs.Partials.{Partial, root-partial, root-place, root-fits, root-chosen}
+use Rattle.rules.proofs.Lists.{and-fst, and-snd, and-both, or-cases, true-or-false, count-keep, count-downFrom, ahead-greater, mem-among}
+use Rattle.rules.proofs.Lists.{same-false, keep-least, mem-below}
+use Rattle.rules.proofs.Selections.{of-parts, Next, next-first, Valid, valid-parts, parts-valid}
+use Rattle.rules.proofs.Partials.{root-partial}
 use Rattle.rules.proofs.Searches.{tried, Outcome, search-outcome}
 use Rattle.rules.proofs.Certificates.{certified-found, certified-best, start-fits, start-kept}
 use Rattle.rules.proofs.Certificates as Certificates
@@ -28,7 +30,7 @@ use Rattle.rules.proofs.Sheets.{Blocks, Derives, search-derives, blocks
 use Rattle.rules.proofs.Reading as Reading
 use Rattle.rules.proofs.SheetText as SheetText
 use Rattle.rules.proofs.SelectionText as SelectionText
-use Rattle.rules.proofs.Samples as Samples
+use Rattle.rules.proofs.Bench as Bench
 
 -- READING
 pub reads-well-formed : ReadsWellFormed
@@ -48,19 +50,24 @@ module _ (c : Catalogue) (t : Tries) (w : WellFormed c) (τ : IsTries c t) where
   unfolding search
   whole = search-outcome c t w τ (c .modules) (rootOnly c) (root-partial c w) (start-fits c w)
 
+  -- what it finds is valid and certified
   found-valid : (s : Selection) → search c t .found ≡ some s → Valid c s × Certified c t s
   found-valid s e =
       let o = subst (λ (x : Option Selection). Outcome (c .modules) c t (rootOnly c) x) e whole in
       (o .0, o .2)
 
+  -- where it finds none there is none
   found-none : search c t .found ≡ none → (s : Selection) → Valid c s → ⊥
   found-none e s v =
       let o = subst (λ (x : Option Selection). Outcome (c .modules) c t (rootOnly c) x) e whole in
       o s (parts-valid c s v) (start-kept c w s v)
 
 pub finds-valid : FindsValid
-finds-valid c t w τ = (λ s e. parts-valid c s (found-valid c t w τ s e .0), (λ e v. found-none c t w τ e (v .0) (valid-parts c (v .0) (v .1)), none-found (search c t .found) refl))
+finds-valid c t w τ = (λ s e. parts-valid c s (found-valid c t w τ s e .0), (none-valid, none-found (search c t .found) refl))
   where
+    none-valid : search c t .found ≡ none → SomeValid c → ⊥
+    none-valid e v = found-none c t w τ e (v .0) (valid-parts c (v .0) (v .1))
+
     none-found : (x : Option Selection) → search c t .found ≡ x → (SomeValid c → ⊥) → search c t .found ≡ none
     none-found none e h = e
     none-found (some s) e h = absurd (h (s, parts-valid c s (found-valid c t w τ s e .0)))
@@ -104,7 +111,8 @@ sheets-tell c w = (λ e. (made e .1, λ most. refuting e most), λ es r. picks-v
 
     refuting : best c ≡ none → 2 * trialsOf c + 1 ≤ mostLines → isRefuting c (sheetOf c t) ≡ true
     refuting e most =
-        and-both (and-both (and-both (le-leb 1 lines (omega (arith, made e .1))) (le-leb lines mostLines (omega (arith, made e .1)))) (made e .0 .fits))
+        and-both
+        (and-both (and-both (le-leb 1 lines (omega (arith, made e .1))) (le-leb lines mostLines (omega (arith, made e .1)))) (made e .0 .fits))
         (blocks-refutes c w (lastLine c (sheetOf c t))
         (subst (λ (k : ℕ). Blocks c (getD (derived c (sheetOf c t)) k noIncompatibility) (rootOnly c)) (omega arith) (made e .0 .blocks)))
 
@@ -118,9 +126,11 @@ finds-first c t s o w τ e u d =
     certified-best c t w τ (isTriedFirst t) (λ m x y h p q a. mem-among a) s o (f .0) (valid-parts c o u) (same-false s o d) (f .1)
 
 -- what stands ahead among a module's versions, newest first, is newer
-ahead-newer : (c : Catalogue) → WellFormed c → (m x y : ℕ) → m < c .modules → isOf c m x ≡ true → isOf c m y ≡ true → Mem x (ahead (newestFirst c m) y) → isNewer c m x y ≡ true
+ahead-newer : (c : Catalogue) → WellFormed c → (m x y : ℕ) → m < c .modules → isOf c m x ≡ true → isOf c m y ≡ true →
+    Mem x (ahead (newestFirst c m) y) → isNewer c m x y ≡ true
 unfolding isOlder
-ahead-newer c w m x y h p q a = ⊎-elim (λ e. absurd (apart e)) (λ e. and-snd (eqb (versionAtPlace c y .owner) (versionAtPlace c x .owner)) _ e) (or-cases _ _ older)
+ahead-newer c w m x y h p q a =
+    ⊎-elim (λ e. absurd (apart e)) (λ e. and-snd (eqb (versionAtPlace c y .owner) (versionAtPlace c x .owner)) _ e) (or-cases _ _ older)
   where
     above : y < x
     above = ahead-greater (isOf c m) (length (c .versions)) a (tried c (newestFirst c) (newest-first-tries c) m y h q)
@@ -164,4 +174,4 @@ text-tells = SelectionText.text-tells
 
 -- THE BENCH SAMPLES
 pub samples-hold : Samples
-samples-hold = Samples.samples-hold
+samples-hold = Bench.samples-hold

@@ -29,6 +29,7 @@ digit-read d h = (eqb-true _ d (and-fst _ _ passes), and-snd (eqb (digitOf (digi
     passes : (eqb (digitOf (digitByte d)) d && isDigit (digitByte d)) ≡ true
     passes = all-below (λ (x : ℕ). eqb (digitOf (digitByte x)) x && isDigit (digitByte x)) {n = 16} refl h
 
+-- a digit is what its value is written as, and no line feed
 digit-written : (c : ℕ) → isDigit c ≡ true → (digitOf c < 16) × (digitByte (digitOf c) ≡ c) × (eqb c lineFeed ≡ false)
 unfolding all upFrom
 digit-written c e = (
@@ -56,6 +57,7 @@ unfolding hexOf
 hex-length [] = refl
 hex-length (b ∷ bs) = let e = hex-length bs in omega arith
 
+-- bytes are written in digits
 hex-digits : (bs : List ℕ) → Bytes bs → all isDigit (hexOf bs) ≡ true
 unfolding hexOf all
 hex-digits [] h = refl
@@ -93,6 +95,7 @@ unfolding sum
 sum-last [] x = omega arith
 sum-last (b ∷ bs) x = let e = sum-last bs x in omega arith
 
+-- one more byte
 bytes-last : (bs : List ℕ) (x : ℕ) → Bytes bs → x < 256 → Bytes (bs ++ (x ∷ []))
 bytes-last [] x h g = (g, tt)
 bytes-last (b ∷ bs) x h g = (h .0, bytes-last bs x (h .1) g)
@@ -108,6 +111,7 @@ check-told bs x h e = let q = sum-last bs x in ap (λ (y : ℕ). bs ++ (y ∷ []
 abbrev pub writtenLine : (bytes : List ℕ) → Line
 writtenLine bs = line (hexOf (checked bs)) true
 
+-- the text of a line
 abbrev pub lineText : Line → List ℕ
 lineText l = l .digits ++ cond (l .isEnded) (lineFeed ∷ []) []
 
@@ -137,6 +141,7 @@ frame-lines : (bs t : List ℕ) → Bytes bs → linesOf (frameText bs ++ t) ≡
 unfolding frameText
 frame-lines bs t h = rw append-assoc (lines-cons (hexOf (checked bs)) t (hex-digits (checked bs) (checked-bytes bs h)))
 
+-- the line of a written frame is read back as its bytes and the check byte
 written-frame : (bs : List ℕ) → Bytes bs → frameOf (writtenLine bs .digits) ≡ checked bs
 written-frame bs h = frame-read (checked bs) (checked-bytes bs h)
 
@@ -144,6 +149,7 @@ written-frame bs h = frame-read (checked bs) (checked-bytes bs h)
 abbrev pub framesOf : (text : List ℕ) → List (List ℕ)
 framesOf t = map (λ (l : Line). frameOf (l .digits)) (linesOf t)
 
+-- the frames of a text that begins with a written frame
 pub frames-cons : (bs t : List ℕ) → Bytes bs → framesOf (frameText bs ++ t) ≡ checked bs ∷ framesOf t
 frames-cons bs t h = rw (frame-lines bs t h, written-frame bs h)
 
@@ -158,6 +164,7 @@ take-bytes zero i f h = refl
 take-bytes (suc n) i f h =
     rw (drop-cons f i 0 (omega arith)) (ap (λ (x : List ℕ). byteAt f i ∷ x) (take-bytes n (suc i) f (omega arith)))
 
+-- each byte is below 256, and 0 past the end
 byte-small : (f : List ℕ) (i : ℕ) → Bytes f → byteAt f i < 256
 byte-small [] i h = omega arith
 byte-small (b ∷ f) zero h = h .0
@@ -197,6 +204,7 @@ module _ {S : Type 0} (r : Reader S) where
   unfolding shapeFits
   good-hex s l g = hex-written (l .digits) (search (and-fst, and-snd, g .shape)) (eqb-true (length (l .digits) % 2) 0 (search (and-fst, and-snd, g .shape)))
 
+  -- so the bytes of a good line are bytes
   pub good-bytes : (s : S) (l : Line) → Good r s l → (i : ℕ) → byteAt (frameOf (l .digits)) i < 256
   good-bytes s l g i = byte-small (frameOf (l .digits)) i (good-hex s l g .1)
 

@@ -126,8 +126,7 @@ contentFits c f = cond (isHead f) (isIn 1 32 (byteAt f 1))
     (cond (isNeed f) (ltb (byteAt f 1) (c .modules) && not (eqb (byteAt f 1) (lastVersion c .owner)) &&
     cond (isCaret f) (not (eqb (byteAt f 2) 255)) (ltb (versionAt f 2) (versionAt f 5))) true))
 
--- 7: "17th version of a module, 17th need of a version, 1,025th need"
-unfoldable pub roomFits : Limits → Catalogue → (frame : List ℕ) → Bool
+unfoldable pub roomFits : Limits → Catalogue → (frame : List ℕ) → Bool  -- 7: "17th version of a module, 17th need of a version, 1,025th need"
 roomFits l c f = cond (isVersion f) (ltb (length (placesOf c (byteAt f 1))) (l .ofModule))
     (cond (isNeed f) (ltb (length (needsOf c (length (c .versions) - 1))) (l .ofVersion) && ltb (length (c .needs)) (l .inAll)) true)
 

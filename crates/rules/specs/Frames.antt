@@ -1,5 +1,5 @@
 -- Frames: a line's bytes, the one table of kinds, the loop over lines that all readers share, written frames. Assumes nothing: these are definitions.
-use mathlib.Core.Bool.{Bool, true, false, _&&_, cond}
+use mathlib.Core.Bool.{Bool, _&&_, cond}
 use mathlib.Core.List.{List, [], _∷_, _++_}
 use Prim.Native.Nat.{ℕ, suc, _+_, _*_, _-_, _/_, _%_}
 use lib.Dec.{ltb, leb, eqb}
@@ -49,8 +49,7 @@ abbrev row : (text kind digits first second third : ℕ) → Kind
 row t k n a b c = record { text = t; kind = k; digits = n; first = a; second = b; third = c }
 
 unfoldable pub kinds : List Kind
-kinds =
-    row catalogues 1 6 1 0 0 ∷ row catalogues 2 12 1 2 0 ∷ row catalogues 3 18 1 2 5 ∷ row catalogues 5 12 1 2 0 ∷ row catalogues 4 4 0 0 0 ∷
+kinds = row catalogues 1 6 1 0 0 ∷ row catalogues 2 12 1 2 0 ∷ row catalogues 3 18 1 2 5 ∷ row catalogues 5 12 1 2 0 ∷ row catalogues 4 4 0 0 0 ∷
     row sheets 32 8 1 0 0 ∷ row sheets 33 8 1 0 0 ∷ row sheets 34 14 1 3 5 ∷ row sheets 36 4 0 0 0 ∷ []
 
 unfoldable pub rowIn : List Kind → (text kind : ℕ) → Kind  -- one with no digits for a kind that the text doesn't have

@@ -24,8 +24,7 @@ pub data Row : Type 0 where
   takes : Catalogue → (trials : ℕ) → Row
   rejects : Catalogue → Selection → Row
 
--- B4's sheet is the paper's linear error. B5 stands a second time with the root's needs the other way round: modules are settled by lowest number,
--- not in the order they were first needed
+-- B4's sheet is the paper's linear error. B5 stands twice, then with the root's needs turned round: the lowest number goes first, not the first need
 unfoldable pub samples : List Row
 samples =
     gives (catalogue 3 (v 0 1 0 ∷ v 1 1 0 ∷ v 2 1 0 ∷ v 2 2 0 ∷ []) (n 0 1 1 2 ∷ n 1 2 1 2 ∷ [])) (1 ∷ 2 ∷ 3 ∷ []) ∷  -- B1

@@ -44,8 +44,7 @@ unfoldable pub trialBy : Option ℕ → (go : Selection → Searched) → Select
 trialBy (some k) go s = searched none 1
 trialBy none go s = searched (go s .found) (suc (go s .trials))
 
--- a success ends it; otherwise the next version there, trials added up
-abbrev pub andThen : Option Selection → (trials : ℕ) → Searched → Searched
+abbrev pub andThen : Option Selection → (trials : ℕ) → Searched → Searched  -- a success ends it; else the next version, trials added up
 andThen none n b = searched (b .found) (n + b .trials)
 andThen (some s) n b = searched (some s) n
 

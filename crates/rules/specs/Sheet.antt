@@ -31,9 +31,6 @@ abbrev pub blocksAt : Catalogue → Incompatibility → (owner state : ℕ) → 
 blocksAt c f m zero = isFull c f m
 blocksAt c f m (suc i) = f m (suc i)
 
-unfoldable pub blocks : Catalogue → Incompatibility → Selection → Bool
-blocks c f s = all (λ (m : ℕ). blocksAt c f m (chosenAt s m)) (below (c .modules))
-
 -- NEED LINE: "the needing module's set is that one version; the needed module's set is absent and every version outside the range; all others full"
 unfoldable pub needLine : Catalogue → (number : ℕ) → Incompatibility
 needLine c k = λ m x. cond (eqb m (needyOf c k)) (eqb x (suc (needAt c k .version)))
@@ -43,8 +40,7 @@ needLine c k = λ m x. cond (eqb m (needyOf c k)) (eqb x (suc (needAt c k .versi
 unfoldable pub resolved : (at : ℕ) → (one other : Incompatibility) → Incompatibility
 resolved m f g = λ k x. cond (eqb k m) (f k x || g k x) (f k x && g k x)
 
--- "the root's set contains the root's version and every other set is full"
-unfoldable pub refutes : Catalogue → Incompatibility → Bool
+unfoldable pub refutes : Catalogue → Incompatibility → Bool  -- "the root's set contains the root's version and every other set is full"
 refutes c f = all (λ (i : ℕ). f 0 (suc i)) (placesOf c 0) && all (λ (m : ℕ). eqb m 0 || isFull c f m) (below (c .modules))
 
 pub data Entry : Type 0 where  -- SHEET LINES, the need line and the resolved line
@@ -112,8 +108,7 @@ sheetOrderFits s f = cond (eqb (s .stands) 0) (isSheetHead f)
 
 -- 6: "a count outside 1 to 480, a need number that doesn't exist, a cited line that isn't earlier, or a module not below M"
 unfoldable pub sheetContentFits : Catalogue → SheetReading → (frame : List ℕ) → Bool
-sheetContentFits c s f =
-    cond (isSheetHead f) (isIn 1 mostLines (pairAt f 1)) (isSheetEnd f || entryFits c (length (s .entries)) (entryIn f))
+sheetContentFits c s f = cond (isSheetHead f) (isIn 1 mostLines (pairAt f 1)) (isSheetEnd f || entryFits c (length (s .entries)) (entryIn f))
 
 unfoldable pub withSheetFrame : SheetReading → (frame : List ℕ) → SheetReading
 withSheetFrame s f = cond (isSheetHead f) (sheetReading 1 (pairAt f 1) [])
