@@ -56,18 +56,18 @@ headFault s f = orElse (unless (eqb (s .stands) 0) 5) (unless (isIn 1 32 (f .own
 unfoldable pub versionFault : Limits → State → Last → (count : ℕ) → Fields → ℕ
 versionFault l s z n f =
     orElse
-      (unless
-        (eqb (s .stands) 1 &&
-          (eqb (s .versions) 0 || ltb (z .owner .0) (f .owner .0) || (eqb (z .owner .0) (f .owner .0) && ltb (z .value .0) (f .low .0))))
-        5)
-      (orElse (unless (ltb (f .owner .0) (s .modules) && not (f .topped)) 6) (unless (ltb n (l .ofModule)) 7))
+    (unless
+    (eqb (s .stands) 1 &&
+    (eqb (s .versions) 0 || ltb (z .owner .0) (f .owner .0) || (eqb (z .owner .0) (f .owner .0) && ltb (z .value .0) (f .low .0))))
+    5)
+    (orElse (unless (ltb (f .owner .0) (s .modules) && not (f .topped)) 6) (unless (ltb n (l .ofModule)) 7))
 
 unfoldable pub needFault : Limits → State → Last → Fields → ℕ
 needFault l s z f =
     orElse (unless (eqb (s .stands) 1 && not (eqb (s .versions) 0)) 5)
-      (orElse
-        (unless (ltb (f .owner .0) (s .modules) && not (eqb (f .owner .0) (z .owner .0)) && (ltb (f .low .0) (f .high .0) && leb (f .high .0) 16777215)) 6)
-        (unless (ltb (z .needs) (l .ofVersion) && ltb (s .needs) (l .inAll)) 7))
+    (orElse
+    (unless (ltb (f .owner .0) (s .modules) && not (eqb (f .owner .0) (z .owner .0)) && (ltb (f .low .0) (f .high .0) && leb (f .high .0) 16777215)) 6)
+    (unless (ltb (z .needs) (l .ofVersion) && ltb (s .needs) (l .inAll)) 7))
 
 unfoldable pub endFault : State → ℕ
 endFault s = unless (eqb (s .stands) 1) 5
@@ -84,5 +84,5 @@ after s f =
     cond (eqb (f .kind) 1) (record { stands = 1; modules = f .owner .0; versions = 0; needs = 0 })
     (cond (eqb (f .kind) 2) (record { stands = 1; modules = s .modules; versions = s .versions + 1; needs = s .needs })
     (cond (eqb (f .kind) 3 || eqb (f .kind) 5)
-      (record { stands = 1; modules = s .modules; versions = s .versions; needs = s .needs + 1 })
-      (record { stands = 2; modules = s .modules; versions = s .versions; needs = s .needs })))
+    (record { stands = 1; modules = s .modules; versions = s .versions; needs = s .needs + 1 })
+    (record { stands = 2; modules = s .modules; versions = s .versions; needs = s .needs })))

@@ -3,14 +3,22 @@ ghost use mathlib.Core.Path.{_≡_};
 ghost use Prim.Native.Nat.{_<_};
 ghost use Rattle.rules.specs.Catalogue.{limits};
 ghost use Rattle.catalogue.specs.Frame.{headFault, versionFault, needFault, endFault, frameFault, after};
-use crate::limits::{MODULES, NEEDS, OF_MODULE, OF_VERSION};
-use frames::numbers::{ModuleNo, Version};
+use crate::limits::MODULES;
+use crate::limits::NEEDS;
+use crate::limits::OF_MODULE;
+use crate::limits::OF_VERSION;
+use frames::numbers::ModuleNo;
+use frames::numbers::Version;
 
 // Kinds of frames.
 pub const HEAD: u8 = 0x01;
+
 pub const VERSION: u8 = 0x02;
+
 pub const NEED: u8 = 0x03;
+
 pub const END: u8 = 0x04;
+
 pub const CARET: u8 = 0x05;
 
 // The fields of a frame of any kind: a module (of a head, how many), a version or the low end of a range with whether it has a byte 255, and the
@@ -129,13 +137,33 @@ pub fn after(s: State, f: Fields) -> State
 {
     let m = f.owner;
     if f.kind == HEAD {
-        return State { stands: 1, modules: m.0, versions: 0, needs: 0 };
+        return State {
+            stands: 1,
+            modules: m.0,
+            versions: 0,
+            needs: 0,
+        };
     }
     if f.kind == VERSION {
-        return State { stands: 1, modules: s.modules, versions: s.versions + 1, needs: s.needs };
+        return State {
+            stands: 1,
+            modules: s.modules,
+            versions: s.versions + 1,
+            needs: s.needs,
+        };
     }
     if (f.kind == NEED) | (f.kind == CARET) {
-        return State { stands: 1, modules: s.modules, versions: s.versions, needs: s.needs + 1 };
+        return State {
+            stands: 1,
+            modules: s.modules,
+            versions: s.versions,
+            needs: s.needs + 1,
+        };
     }
-    State { stands: 2, modules: s.modules, versions: s.versions, needs: s.needs }
+    State {
+        stands: 2,
+        modules: s.modules,
+        versions: s.versions,
+        needs: s.needs,
+    }
 }

@@ -16,7 +16,7 @@ use Rattle.rules.specs.Sheet.{Incompatibility, noIncompatibility, isFull
 use Rattle.rules.specs.Sheet.{linesFrom, entryFits, entriesFit}
 use Rattle.rules.proofs.Lists.{and-fst, and-snd, and-both, or-cases, not-both, true-or-false, mem-all, all-mem, all-below, below-all}
 use Rattle.rules.proofs.Lists.{same-or-not, longer, length-last, one-more}
-use Rattle.rules.proofs.Selections.{AbsentOrAt, absent-or-at, mem-places, places-mem, mem-asked, Valid}
+use Rattle.rules.proofs.Selections.{mem-places, places-mem, mem-asked, Valid, valid-state}
 
 -- no valid selection has every module inside the sets
 abbrev pub Holds : Catalogue → Incompatibility → Type 0
@@ -166,8 +166,4 @@ refuting-none c f r h o v = h o v (below-all (λ (m : ℕ). f m (chosenAt o m)) 
     inside m l (inl e) =
         let z = eqb-true m 0 e in
         subst (λ (k : ℕ). f k (chosenAt o k) ≡ true) (sym z) (rw (v .root .1) (root _ (v .states 0 _ (v .root .1))))
-    inside m l (inr e) = full-state c f m (chosenAt o m) e (state (absent-or-at (chosenAt o m)))
-      where
-        state : AbsentOrAt (chosenAt o m) → isState c m (chosenAt o m) ≡ true
-        state (inl z) = rw z
-        state (inr x) = rw (x .1) (v .states m (x .0) (x .1))
+    inside m l (inr e) = full-state c f m (chosenAt o m) e (valid-state c o v m)

@@ -175,17 +175,21 @@ valid-parts c s e =
     selected m i h (inl z) = absurd (suc-not-zero h (eqb-true _ _ z))
     selected m i h (inr r) = r
 
+-- each module of a valid selection is in a state of its own
+pub valid-state : (c : Catalogue) (s : Selection) → Valid c s → (m : ℕ) → isState c m (chosenAt s m) ≡ true
+valid-state c s v m = state (absent-or-at (chosenAt s m))
+  where
+    state : AbsentOrAt (chosenAt s m) → isState c m (chosenAt s m) ≡ true
+    state (inl z) = rw z
+    state (inr r) = rw (r .1) (v .states m (r .0) (r .1))
+
 -- and a valid one passes it
 pub parts-valid : (c : Catalogue) (s : Selection) → Valid c s → isValid c s ≡ true
 unfolding isValid
 parts-valid c s v = and-both (and-both (and-both (and-both (eq-eqb _ _ (v .size)) states) root) met) reach
   where
     states : all (λ (m : ℕ). isState c m (chosenAt s m)) (below (c .modules)) ≡ true
-    states = below-all (λ (m : ℕ). isState c m (chosenAt s m)) (c .modules) (λ m h. state m (absent-or-at (chosenAt s m)))
-      where
-        state : (m : ℕ) → AbsentOrAt (chosenAt s m) → isState c m (chosenAt s m) ≡ true
-        state m (inl z) = rw z
-        state m (inr r) = rw (r .1) (v .states m (r .0) (r .1))
+    states = below-all (λ (m : ℕ). isState c m (chosenAt s m)) (c .modules) (λ m h. valid-state c s v m)
 
     root : ltb 0 (chosenAt s 0) ≡ true
     root = lt-ltb 0 (chosenAt s 0) (let r = v .root .1 in omega arith)

@@ -16,7 +16,7 @@ use Rattle.rules.specs.Lists.{firstOf, countOf}
 use Rattle.rules.specs.Catalogue.{Catalogue, needAt, needyOf, isOf, placesOf, inRange, WellFormed}
 use Rattle.rules.specs.Selection.{Selection, chosenAt, withChoice, rootOnly, asked, isAsked, nextModules}
 use Rattle.rules.specs.Search.{Tries, IsTries, leavesOut, bars, barring, Searched, trialBy, andThen, tryEach, searchFrom}
-use Rattle.rules.specs.Sheet.{Incompatibility, noIncompatibility, isFull, blocksAt, needLine, resolved, refutes, Entry, cites, resolves, lineOf}
+use Rattle.rules.specs.Sheet.{Incompatibility, noIncompatibility, isFull, blocksAt, Blocks, needLine, resolved, refutes, Entry, cites, resolves, lineOf}
 use Rattle.rules.specs.Sheet.{linesFrom, entryFits, entriesFit, trialLines, triesLines, asking, searchLines}
 use Rattle.rules.proofs.Lists.{and-both, or-fst, or-snd, not-both, mem-all, any-mem, first-mem, first-none, below-all, same-or-not, longer}
 use Rattle.rules.proofs.Lists.{length-last}
@@ -27,11 +27,7 @@ use Rattle.rules.proofs.Searches.{next-cases, search-done, search-next,
 use Rattle.rules.proofs.Incompatibilities.{need-needy, need-target, need-other, resolved-at, resolved-off, lines-length, lines-earlier}
 use Rattle.rules.proofs.Incompatibilities.{lines-append, fit-append, state-full, full-state}
 
--- BLOCKING, module by module
-abbrev pub Blocks : Catalogue → Incompatibility → Selection → Type 0
-Blocks c f p = (m : ℕ) → m < c .modules → blocksAt c f m (chosenAt p m) ≡ true
-
--- a set that holds every state blocks whatever is chosen
+-- BLOCKING, module by module. A set that holds every state blocks whatever is chosen
 blocks-all : (c : Catalogue) (f : Incompatibility) (m x : ℕ) → ((y : ℕ) → f m y ≡ true) → blocksAt c f m x ≡ true
 blocks-all c f m zero h = state-full c f m (h 0) (λ i e. h (suc i))
 blocks-all c f m (suc i) h = h (suc i)

@@ -1,7 +1,7 @@
 -- The theorems about the rules, under the names of the promises in specs/Promises.antt and of the claim in specs/Samples.antt. Assumes nothing.
 use mathlib.Core.Path.{_≡_, refl, _∙_, subst}
 use mathlib.Core.Bool.{Bool, true, false, cond}
-use mathlib.Core.Logic.{⊎-elim}
+use mathlib.Core.Logic.{⊎-elim, inl, inr}
 use mathlib.Core.List.{List, [], List·Memᴰ as Mem}
 use mathlib.Core.Option.{Option, none, some}
 use Prim.Native.Nat.{ℕ, _+_, _*_, _-_, _≤_, _<_}
@@ -12,21 +12,21 @@ use lib.ListN.{length, getD}
 use borrow.Author.Tests.{lt-ltb, le-leb, leb-true, ltb-true, eq-eqb}
 use Rattle.rules.specs.Lists.{ahead, downFrom, countOf}
 use Rattle.rules.specs.Catalogue.{Catalogue, versionAtPlace, isOf, isOlder, WellFormed}
-use Rattle.rules.specs.Selection.{Selection, rootOnly, nextModules}
+use Rattle.rules.specs.Selection.{Selection, rootOnly, nextModules, chosenAt}
 use Rattle.rules.specs.Search.{Tries, IsTries, newestFirst, search, best, trialsOf, isTriedFirst, isNewer, Certified}
-use Rattle.rules.specs.Sheet.{noIncompatibility, isInside, Entry, derived, lastLine, isRefuting, mostLines, sheetOf}
-use Rattle.rules.specs.Promises.{SomeValid, ReadsWellFormed, NewestFirstTries, FindsValid, PicksValid, FactsHold, SheetsTell, AcceptsExactly}
+use Rattle.rules.specs.Sheet.{Incompatibility, noIncompatibility, isFull, isInside, blocksAt, Blocks, Entry, derived, lastLine, isRefuting, mostLines, sheetOf}
+use Rattle.rules.specs.Promises.{SomeValid, ReadsWellFormed, NewestFirstTries, FindsValid, PicksValid, FactsHold, SheetsTell, BlockingRefutes, AcceptsExactly}
 use Rattle.rules.specs.Promises.{FindsFirst, PicksBest, FindsCertified, OrderWhole, NextIsLowest, TextTells}
 use Rattle.rules.specs.Samples.{Samples}
 use Rattle.rules.proofs.Lists.{and-fst, and-snd, and-both, or-cases, true-or-false, count-keep, count-downFrom, ahead-greater, mem-among}
 use Rattle.rules.proofs.Lists.{same-false, keep-least, mem-below}
-use Rattle.rules.proofs.Selections.{of-parts, Next, next-first, Valid, valid-parts, parts-valid}
+use Rattle.rules.proofs.Selections.{of-parts, Next, next-first, AbsentOrAt, absent-or-at, Valid, valid-parts, valid-state, parts-valid}
 use Rattle.rules.proofs.Partials.{root-partial}
 use Rattle.rules.proofs.Searches.{tried, Outcome, search-outcome}
 use Rattle.rules.proofs.Certificates.{certified-found, certified-best, start-fits, start-kept}
 use Rattle.rules.proofs.Certificates as Certificates
-use Rattle.rules.proofs.Incompatibilities.{Holds, lines-length, lines-hold, refuting-none}
-use Rattle.rules.proofs.Sheets.{Blocks, Derives, search-derives, blocks-refutes}
+use Rattle.rules.proofs.Incompatibilities.{Holds, lines-length, lines-hold, refuting-none, full-state}
+use Rattle.rules.proofs.Sheets.{Derives, search-derives, blocks-refutes}
 use Rattle.rules.proofs.Reading as Reading
 use Rattle.rules.proofs.SheetText as SheetText
 use Rattle.rules.proofs.SelectionText as SelectionText
@@ -115,6 +115,18 @@ sheets-tell c w = (λ e. (made e .1, λ most. refuting e most), λ es r. picks-v
         (and-both (and-both (le-leb 1 lines (omega (arith, made e .1))) (le-leb lines mostLines (omega (arith, made e .1)))) (made e .0 .fits))
         (blocks-refutes c w (lastLine c (sheetOf c t))
         (subst (λ (k : ℕ). Blocks c (getD (derived c (sheetOf c t)) k noIncompatibility) (rootOnly c)) (omega arith) (made e .0 .blocks)))
+
+pub blocking-refutes : BlockingRefutes
+unfolding isInside
+blocking-refutes c f p h b o v k =
+    not-both (below-all (λ (m : ℕ). f m (chosenAt o m)) (c .modules) (λ m l. inside m l (absent-or-at (chosenAt p m)))) (h o v)
+  where
+    valid : Valid c o
+    valid = valid-parts c o v
+
+    inside : (m : ℕ) → m < c .modules → AbsentOrAt (chosenAt p m) → f m (chosenAt o m) ≡ true
+    inside m l (inl z) = full-state c f m (chosenAt o m) (subst (λ (x : ℕ). blocksAt c f m x ≡ true) z (b m l)) (valid-state c o valid m)
+    inside m l (inr r) = rw (k m (r .0) (r .1)) (subst (λ (x : ℕ). blocksAt c f m x ≡ true) (r .1) (b m l))
 
 pub accepts-exactly : AcceptsExactly
 accepts-exactly = SheetText.accepts-exactly

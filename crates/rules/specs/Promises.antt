@@ -11,8 +11,8 @@ use Rattle.rules.specs.Lists.{same, countOf}
 use Rattle.rules.specs.Lines.{fine}
 use Rattle.rules.specs.Catalogue.{Catalogue, Limits, CarriedLimits, Carried, WellFormed, textFault, catalogueOf}
 use Rattle.rules.specs.Selection.{Selection, chosenAt, isValid, isAsked, nextModules, Choice, orderOf, selectionText}
-use Rattle.rules.specs.Search.{Tries, IsTries, newestFirst, search, best, trialsOf, isAheadBy, isTriedFirst, isNewer, Certified}
-use Rattle.rules.specs.Sheet.{Entry, entriesFit, derived, noIncompatibility, isInside, isRefuting, mostLines, sheetFault, sheetText, sheetOf}
+use Rattle.rules.specs.Search.{Tries, IsTries, newestFirst, search, best, trialsOf, isAheadBy, isTriedFirst, isNewer, Refuted, Certified}
+use Rattle.rules.specs.Sheet.{Incompatibility, Blocks, Entry, entriesFit, derived, noIncompatibility, isInside, isRefuting, mostLines, sheetFault, sheetText, sheetOf}
 
 abbrev pub SomeValid : Catalogue → Type 0
 SomeValid c = (s : Selection) × (isValid c s ≡ true)
@@ -41,6 +41,11 @@ SheetsTell = (c : Catalogue) → WellFormed c →
     (best c ≡ none → (length (sheetOf c (newestFirst c)) ≡ 2 * trialsOf c + 1) ×
     (2 * trialsOf c + 1 ≤ mostLines → isRefuting c (sheetOf c (newestFirst c)) ≡ true)) ×
     ((es : List Entry) → isRefuting c es ≡ true → best c ≡ none)
+
+-- a true incompatibility that blocks a partial selection refutes it: no valid selection keeps its choices
+abbrev pub BlockingRefutes : Type 0
+BlockingRefutes = (c : Catalogue) (f : Incompatibility) (p : Selection) → ((o : Selection) → isValid c o ≡ true → isInside c f o ≡ false) →
+    Blocks c f p → Refuted c p
 
 abbrev pub AcceptsExactly : Type 0  -- the checker accepts exactly the texts of refuting sheets
 AcceptsExactly = (l : Limits) (c : Catalogue) (t : List ℕ) → CarriedLimits l → Carried c →

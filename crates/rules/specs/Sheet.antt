@@ -1,8 +1,9 @@
 -- Derivation sheets: incompatibilities ("facts"), sheets read and judged, and the sheet of a failing search. Assumes nothing: these are definitions.
+use mathlib.Core.Path.{_≡_}
 use mathlib.Core.Bool.{Bool, true, false, _&&_, _||_, not, cond}
 use mathlib.Core.List.{List, [], _∷_, _++_, flatMap}
 use mathlib.Core.Option.{Option, none, some, Option·getD}
-use Prim.Native.Nat.{ℕ, zero, suc, _+_, _-_}
+use Prim.Native.Nat.{ℕ, zero, suc, _+_, _-_, _<_}
 use lib.Dec.{ltb, eqb}
 use lib.ListN.{length, getD}
 use Rattle.rules.specs.Lists.{isIn, all, below, firstOf}
@@ -30,6 +31,9 @@ isInside c f s = all (λ (m : ℕ). f m (chosenAt s m)) (below (c .modules))
 abbrev pub blocksAt : Catalogue → Incompatibility → (owner state : ℕ) → Bool
 blocksAt c f m zero = isFull c f m
 blocksAt c f m (suc i) = f m (suc i)
+
+abbrev pub Blocks : Catalogue → Incompatibility → Selection → Type 0
+Blocks c f p = (m : ℕ) → m < c .modules → blocksAt c f m (chosenAt p m) ≡ true
 
 -- NEED LINE: "the needing module's set is that one version; the needed module's set is absent and every version outside the range; all others full"
 unfoldable pub needLine : Catalogue → (number : ℕ) → Incompatibility
