@@ -18,7 +18,7 @@ use Rattle.rules.specs.Sheet.{Incompatibility, noIncompatibility, isFull
 use Rattle.rules.specs.Promises.{SomeValid, ReadsWellFormed, NewestFirstTries, FindsValid, PicksValid, FactsHold, SheetsTell, BlockingRefutes, AcceptsExactly}
 use Rattle.rules.specs.Promises.{FindsFirst, PicksBest, FindsCertified, OrderWhole, NextIsLowest, TextTells}
 use Rattle.rules.specs.Samples.{Samples}
-use Rattle.rules.proofs.Lists.{and-fst, and-snd, and-both, or-cases, true-or-false, count-keep, count-downFrom, ahead-greater, mem-among}
+use Rattle.rules.proofs.Lists.{and-fst, and-snd, and-both, or-cases, true-or-false, count-keep, count-downFrom, ahead-greater, mem-among, not-both, below-all}
 use Rattle.rules.proofs.Lists.{same-false, keep-least, mem-below}
 use Rattle.rules.proofs.Selections.{of-parts, Next, next-first, AbsentOrAt, absent-or-at, Valid, valid-parts, valid-state, parts-valid}
 use Rattle.rules.proofs.Partials.{root-partial}
