@@ -1,1 +1,3 @@
--- Lemmas that the proofs of this crate share.
+-- Lemmas that the proofs of this crate share, and laws for the readers of the next layer.
+pub mod Pairs
+pub mod Areas
