@@ -46,6 +46,12 @@ true-or-false false = inr refl
 pub not-both : {a : Bool} → a ≡ true → a ≡ false → ⊥
 not-both p q = true≢false (sym p ∙ q)
 
+pub cond-true : {A : Type 0} {b : Bool} (x y : A) → b ≡ true → cond b x y ≡ x
+cond-true x y e = rw e
+
+pub cond-false : {A : Type 0} {b : Bool} (x y : A) → b ≡ false → cond b x y ≡ y
+cond-false x y e = rw e
+
 pub cond-same : {A : Type 0} {x : A} (b : Bool) → x ≡ cond b x x
 cond-same true = refl
 cond-same false = refl
