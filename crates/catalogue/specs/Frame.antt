@@ -1,5 +1,5 @@
 -- What a frame of a catalogue means to the reader's code. Assumes nothing: these are definitions.
-use mathlib.Core.Bool.{Bool, _&&_, _||_, not, cond}
+use mathlib.Core.Bool.{Bool, true, _&&_, _||_, not, cond}
 use mathlib.Core.List.{List}
 use Prim.Native.Nat.{ℕ, _+_, _*_, _-_}
 use lib.Dec.{ltb, leb, eqb}
@@ -49,29 +49,30 @@ fieldsAt i j k f =
       high = version (cond (eqb (byteAt f 0) 5) ((byteAt f j + 1) * 65536) (versionAt f k));
     }
 
--- 5, 6 and 7 for a frame of each kind
-unfoldable pub headFault : State → Fields → ℕ
-headFault s f = orElse (unless (eqb (s .stands) 0) 5) (unless (isIn 1 32 (f .owner .0)) 6)
+-- 5, 6 and 7: the first of three tests that fails
+unfoldable pub checks : (order content room : Bool) → ℕ
+checks a b d = orElse (unless a 5) (orElse (unless b 6) (unless d 7))
 
-unfoldable pub versionFault : Limits → State → Last → (count : ℕ) → Fields → ℕ
+abbrev pub headFault : State → Fields → ℕ
+headFault s f = checks (eqb (s .stands) 0) (isIn 1 32 (f .owner .0)) true
+
+abbrev pub versionFault : Limits → State → Last → (count : ℕ) → Fields → ℕ
 versionFault l s z n f =
-    orElse
-    (unless
+    checks
     (eqb (s .stands) 1 &&
     (eqb (s .versions) 0 || ltb (z .owner .0) (f .owner .0) || (eqb (z .owner .0) (f .owner .0) && ltb (z .value .0) (f .low .0))))
-    5)
-    (orElse (unless (ltb (f .owner .0) (s .modules) && not (f .topped)) 6) (unless (ltb n (l .ofModule)) 7))
+    (ltb (f .owner .0) (s .modules) && not (f .topped)) (ltb n (l .ofModule))
 
-unfoldable pub needFault : Limits → State → Last → Fields → ℕ
+abbrev pub needFault : Limits → State → Last → Fields → ℕ
 needFault l s z f =
-    orElse (unless (eqb (s .stands) 1 && not (eqb (s .versions) 0)) 5)
-    (orElse
-    (unless (ltb (f .owner .0) (s .modules) && not (eqb (f .owner .0) (z .owner .0)) && (ltb (f .low .0) (f .high .0) && leb (f .high .0) 16777215)) 6)
-    (unless (ltb (z .needs) (l .ofVersion) && ltb (s .needs) (l .inAll)) 7))
+    checks (eqb (s .stands) 1 && not (eqb (s .versions) 0))
+    (ltb (f .owner .0) (s .modules) && not (eqb (f .owner .0) (z .owner .0)) && (ltb (f .low .0) (f .high .0) && leb (f .high .0) 16777215))
+    (ltb (z .needs) (l .ofVersion) && ltb (s .needs) (l .inAll))
 
-unfoldable pub endFault : State → ℕ
-endFault s = unless (eqb (s .stands) 1) 5
+abbrev pub endFault : State → ℕ
+endFault s = checks (eqb (s .stands) 1) true true
 
+-- by kind: head, version, need, end
 unfoldable pub frameFault : Limits → State → Last → (count : ℕ) → Fields → ℕ
 frameFault l s z n f =
     cond (eqb (f .kind) 1) (headFault s f)

@@ -1,17 +1,43 @@
 -- The tables of a catalogue, and when they hold one. Assumes nothing: these are definitions.
 use mathlib.Core.Path.{_≡_}
-use mathlib.Core.Bool.{Bool, not, cond}
+use mathlib.Core.Bool.{Bool, _&&_, _||_, not, cond}
 use mathlib.Core.List.{List}
-use Prim.Native.Nat.{ℕ, _-_}
+use Prim.Native.Nat.{ℕ, _+_, _-_}
 use lib.Dec.{ltb, eqb}
 use lib.ListN.{length, getD, set}
 use Rattle.rules.specs.Lists.{upFrom}
 use Rattle.rules.specs.Catalogue.{Catalogue, versionAtPlace, needAt, placesOf, needsOf}
+use Rattle.catalogue.specs.declared.frame.Fields.{Fields}
+use Rattle.catalogue.specs.declared.frame.State.{State}
+use Rattle.catalogue.specs.declared.frame.Last.{Last}
 use Rattle.catalogue.specs.declared.tables.Tables.{Tables}
 
 -- a list with a number put in at an index, if it is wanted
 abbrev pub keptAt : (wanted : Bool) → (at x : ℕ) → List ℕ → List ℕ
 keptAt z i x xs = cond z (set xs i x) xs
+
+-- frames that add a version, and a need
+abbrev pub isVersion : Fields → Bool
+isVersion f = eqb (f .kind) 2
+
+abbrev pub isNeed : Fields → Bool
+isNeed f = eqb (f .kind) 3 || eqb (f .kind) 5
+
+-- the tables after a frame: `s` is the state before it, `count` how many versions its module has before it
+abbrev pub kept : Tables → State → Last → (count : ℕ) → Fields → Tables
+kept t s z n f =
+    record {
+      values = keptAt (isVersion f) (s .versions) (f .low .0) (t .values);
+      owners = keptAt (isVersion f) (s .versions) (f .owner .0) (t .owners);
+      starts = keptAt (isVersion f) (s .versions) (s .needs) (t .starts);
+      marks = keptAt (isNeed f) (s .versions - 1) (z .needs + 2) (keptAt (isVersion f) (s .versions) 1 (t .marks));
+      firsts = keptAt (isVersion f && eqb n 0) (f .owner .0) (s .versions) (t .firsts);
+      counts = keptAt (isVersion f) (f .owner .0) (n + 1) (t .counts);
+      needies = keptAt (isNeed f) (s .needs) (s .versions - 1) (t .needies);
+      targets = keptAt (isNeed f) (s .needs) (f .owner .0) (t .targets);
+      lows = keptAt (isNeed f) (s .needs) (f .low .0) (t .lows);
+      highs = keptAt (isNeed f) (s .needs) (f .high .0) (t .highs);
+    }
 
 -- tables that hold a catalogue, at every index: past the last version or need they are 0
 pub record Holds (t : Tables) (c : Catalogue) : Type 0 where

@@ -1,12 +1,18 @@
 // A frame of a catalogue: its fields, what is wrong with it, and how the reading goes on after it.
 ghost use mathlib.Core.Path.{_≡_};
-ghost use Prim.Native.Nat.{_<_};
+ghost use mathlib.Core.Bool.{cond};
+ghost use Prim.Native.Nat.{_+_, _*_, _<_};
+ghost use lib.Dec.{eqb};
 ghost use Rattle.rules.specs.Catalogue.{limits};
-ghost use Rattle.catalogue.specs.Frame.{headFault, versionFault, needFault, endFault, frameFault, after};
+ghost use Rattle.catalogue.specs.Frame.{checks, headFault, versionFault, needFault, endFault, frameFault, after, fieldsAt};
 use crate::limits::MODULES;
 use crate::limits::NEEDS;
 use crate::limits::OF_MODULE;
 use crate::limits::OF_VERSION;
+use frames::fields::LONGEST;
+use frames::fields::byte_in;
+use frames::fields::version_in;
+use frames::kinds::Kind;
 use frames::numbers::ModuleNo;
 use frames::numbers::Version;
 
@@ -46,22 +52,31 @@ pub struct Last {
     pub needs: u16,
 }
 
-pub fn head_fault(s: State, f: Fields) -> u8
-    ensures { λ r. ⌜ r ≡ headFault s f ⌝ }
+// 5, 6 or 7: the first of three tests that fails; 0 where none does.
+fn checks(order: bool, content: bool, room: bool) -> u8
+    ensures { λ r. ⌜ r ≡ checks order content room ⌝ }
 {
-    if s.stands != 0 {
+    if !order {
         return 5;
     }
-    let m = f.owner;
-    let fits = (1 <= m.0) & (m.0 <= MODULES);
-    if !fits {
+    if !content {
         return 6;
+    }
+    if !room {
+        return 7;
     }
     0
 }
 
+fn head_fault(s: State, f: Fields) -> u8
+    ensures { λ r. ⌜ r ≡ headFault s f ⌝ }
+{
+    let m = f.owner;
+    checks(s.stands == 0, (1 <= m.0) & (m.0 <= MODULES), true)
+}
+
 // `count` versions of the module have been read.
-pub fn version_fault(s: State, last: Last, count: u16, f: Fields) -> u8
+fn version_fault(s: State, last: Last, count: u16, f: Fields) -> u8
     ensures { λ r. ⌜ r ≡ versionFault limits s last count f ⌝ }
 {
     let m = f.owner;
@@ -69,50 +84,34 @@ pub fn version_fault(s: State, last: Last, count: u16, f: Fields) -> u8
     let o = last.owner;
     let w = last.value;
     let rises = (s.versions == 0) | (o.0 < m.0) | ((o.0 == m.0) & (w.0 < v.0));
-    let in_order = (s.stands == 1) & rises;
-    if !in_order {
-        return 5;
-    }
-    let fits = (m.0 < s.modules) & !f.topped;
-    if !fits {
-        return 6;
-    }
-    if count < OF_MODULE {
-        return 0;
-    }
-    7
+    checks(
+        (s.stands == 1) & rises,
+        (m.0 < s.modules) & !f.topped,
+        count < OF_MODULE,
+    )
 }
 
-pub fn need_fault(s: State, last: Last, f: Fields) -> u8
+fn need_fault(s: State, last: Last, f: Fields) -> u8
     ensures { λ r. ⌜ r ≡ needFault limits s last f ⌝ }
 {
     let m = f.owner;
     let low = f.low;
     let high = f.high;
     let o = last.owner;
-    let in_order = (s.stands == 1) & (s.versions != 0);
-    if !in_order {
-        return 5;
-    }
-    let rises = (low.0 < high.0) & (high.0 <= Version::NO_END.0);
-    let fits = (m.0 < s.modules) & (m.0 != o.0) & rises;
-    if !fits {
-        return 6;
-    }
+    let end = Version::NO_END;
+    let rises = (low.0 < high.0) & (high.0 <= end.0);
     let room = (last.needs < OF_VERSION) & (s.needs < NEEDS);
-    if !room {
-        return 7;
-    }
-    0
+    checks(
+        (s.stands == 1) & (s.versions != 0),
+        (m.0 < s.modules) & (m.0 != o.0) & rises,
+        room,
+    )
 }
 
-pub fn end_fault(s: State) -> u8
+fn end_fault(s: State) -> u8
     ensures { λ r. ⌜ r ≡ endFault s ⌝ }
 {
-    if s.stands == 1 {
-        return 0;
-    }
-    5
+    checks(s.stands == 1, true, true)
 }
 
 // What is wrong with a frame of a known kind.
@@ -166,4 +165,37 @@ pub fn after(s: State, f: Fields) -> State
         versions: s.versions,
         needs: s.needs,
     }
+}
+
+// The fields of a frame of a kind with this row of the table.
+pub fn fields_of(frame: [u8; LONGEST], row: Kind) -> Fields
+    ensures { λ r. ⌜ r ≡ fieldsAt (row .first) (row .second) (row .third) frame ⌝ }
+{
+    let kind = byte_in(frame, 0);
+    let i = row.first as usize;
+    let j = row.second as usize;
+    let owner = byte_in(frame, i) as u16;
+    let major = byte_in(frame, j);
+    let minor = byte_in(frame, j + 1);
+    let patch = byte_in(frame, j + 2);
+    let topped = (major == 255) | (minor == 255) | (patch == 255);
+    let low = version_in(frame, row.second);
+    let high = upper_end(kind, major, version_in(frame, row.third));
+    Fields {
+        kind: kind,
+        owner: ModuleNo(owner),
+        low: low,
+        topped: topped,
+        high: high,
+    }
+}
+
+// A caret's range ends at the next major version.
+fn upper_end(kind: u8, major: u8, high: Version) -> Version
+    ensures { λ r. ⌜ r .0 ≡ cond (eqb kind 5) ((major + 1) * 65536) (high .0) ⌝ }
+{
+    if kind == CARET {
+        return Version((major as u32 + 1) * 65536);
+    }
+    high
 }
