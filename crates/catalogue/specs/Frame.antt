@@ -9,6 +9,7 @@ use Rattle.rules.specs.Lines.{orElse, unless}
 use Rattle.rules.specs.Frames.{byteAt, versionAt}
 use Rattle.rules.specs.Catalogue.{Catalogue, Limits, Reading, lastVersion, needsOf}
 use Rattle.frames.specs.declared.numbers.ModuleNo.{ModuleNo}
+use Rattle.frames.specs.declared.numbers.Place.{Place}
 use Rattle.frames.specs.declared.numbers.Version.{Version}
 use Rattle.catalogue.specs.declared.frame.Fields.{Fields}
 use Rattle.catalogue.specs.declared.frame.State.{State}
@@ -16,6 +17,9 @@ use Rattle.catalogue.specs.declared.frame.Last.{Last}
 
 abbrev pub moduleNo : ℕ → ModuleNo
 moduleNo m = record { 0 = m }
+
+abbrev pub place : ℕ → Place
+place i = record { 0 = i }
 
 abbrev pub version : ℕ → Version
 version v = record { 0 = v }
@@ -33,6 +37,7 @@ stateOf u =
 abbrev pub lastOf : Catalogue → Last
 lastOf c =
     record {
+      place = place (length (c .versions) - 1);
       owner = moduleNo (lastVersion c .owner);
       value = version (lastVersion c .value);
       needs = length (needsOf c (length (c .versions) - 1));

@@ -7,6 +7,7 @@ use lib.Dec.{ltb, eqb}
 use lib.ListN.{length, getD, set}
 use Rattle.rules.specs.Lists.{upFrom}
 use Rattle.rules.specs.Catalogue.{Catalogue, versionAtPlace, needAt, placesOf, needsOf}
+use Rattle.catalogue.specs.Frame.{moduleNo, place, version}
 use Rattle.catalogue.specs.declared.frame.Fields.{Fields}
 use Rattle.catalogue.specs.declared.frame.State.{State}
 use Rattle.catalogue.specs.declared.frame.Last.{Last}
@@ -15,6 +16,16 @@ use Rattle.catalogue.specs.declared.tables.Tables.{Tables}
 -- a list with a number put in at an index, if it is wanted
 abbrev pub keptAt : (wanted : Bool) → (at x : ℕ) → List ℕ → List ℕ
 keptAt z i x xs = cond z (set xs i x) xs
+
+-- what the tables tell of the version last read, of so many
+abbrev pub lastIn : (values owners marks : List ℕ) → (versions : ℕ) → Last
+lastIn vs os ms n =
+    record {
+      place = place (n - 1);
+      owner = moduleNo (getD os (n - 1) 0);
+      value = version (getD vs (n - 1) 0);
+      needs = getD ms (n - 1) 0 - 1;
+    }
 
 -- frames that add a version, and a need
 abbrev pub isVersion : Fields → Bool
@@ -30,10 +41,10 @@ kept t s z n f =
       values = keptAt (isVersion f) (s .versions) (f .low .0) (t .values);
       owners = keptAt (isVersion f) (s .versions) (f .owner .0) (t .owners);
       starts = keptAt (isVersion f) (s .versions) (s .needs) (t .starts);
-      marks = keptAt (isNeed f) (s .versions - 1) (z .needs + 2) (keptAt (isVersion f) (s .versions) 1 (t .marks));
+      marks = keptAt (isNeed f) (z .place .0) (z .needs + 2) (keptAt (isVersion f) (s .versions) 1 (t .marks));
       firsts = keptAt (isVersion f && eqb n 0) (f .owner .0) (s .versions) (t .firsts);
       counts = keptAt (isVersion f) (f .owner .0) (n + 1) (t .counts);
-      needies = keptAt (isNeed f) (s .needs) (s .versions - 1) (t .needies);
+      needies = keptAt (isNeed f) (s .needs) (z .place .0) (t .needies);
       targets = keptAt (isNeed f) (s .needs) (f .owner .0) (t .targets);
       lows = keptAt (isNeed f) (s .needs) (f .low .0) (t .lows);
       highs = keptAt (isNeed f) (s .needs) (f .high .0) (t .highs);

@@ -14,6 +14,7 @@ use frames::fields::byte_in;
 use frames::fields::version_in;
 use frames::kinds::Kind;
 use frames::numbers::ModuleNo;
+use frames::numbers::Place;
 use frames::numbers::Version;
 
 // Kinds of frames.
@@ -47,6 +48,7 @@ pub struct State {
 
 // The version last read, with how many needs it has so far.
 pub struct Last {
+    pub place: Place,
     pub owner: ModuleNo,
     pub value: Version,
     pub needs: u16,

@@ -3,8 +3,7 @@ ghost use mathlib.Core.Path.{_≡_};
 ghost use mathlib.Core.Bool.{_&&_, _||_};
 ghost use Prim.Native.Nat.{_+_, _-_, _<_};
 ghost use lib.Dec.{eqb};
-ghost use lib.ListN.{getD};
-ghost use Rattle.catalogue.specs.Tables.{keptAt, isVersion, isNeed};
+ghost use Rattle.catalogue.specs.Tables.{keptAt, isVersion, isNeed, lastIn};
 use crate::access;
 use crate::frame::CARET;
 use crate::frame::Fields;
@@ -16,6 +15,7 @@ use crate::limits::MODULES;
 use crate::limits::NEEDS;
 use crate::limits::VERSIONS;
 use frames::numbers::ModuleNo;
+use frames::numbers::Place;
 use frames::numbers::Version;
 
 // The mark of a version that is not there.
@@ -36,34 +36,35 @@ pub struct Tables {
     pub highs: [u32; NEEDS as usize],
 }
 
-// The place before the next one, or 0.
-pub fn before(versions: u16) -> usize
-    ensures { λ r. ⌜ r ≡ versions - 1 ⌝ }
+// One less, or 0.
+pub fn one_less(x: u16) -> u16
+    ensures { λ r. ⌜ r ≡ x - 1 ⌝ }
 {
-    if versions == 0 {
+    if x == 0 {
         return 0;
     }
-    (versions - 1) as usize
+    x - 1
 }
 
 // The version last read.
 pub fn last_of(values: &[u32], owners: &[u16], marks: &[u16], versions: u16) -> Last
-    ensures owner { λ r. ⌜ r .owner .0 ≡ getD (now (owners .entry)) (versions - 1) 0 ⌝ }
-    ensures value { λ r. ⌜ r .value .0 ≡ getD (now (values .entry)) (versions - 1) 0 ⌝ }
-    ensures needs { λ r. ⌜ r .needs ≡ getD (now (marks .entry)) (versions - 1) 0 - 1 ⌝ }
+    ensures { λ r. ⌜ r ≡ lastIn (now (values .entry)) (now (owners .entry)) (now (marks .entry)) versions ⌝ }
 {
-    let at = before(versions);
+    let place = one_less(versions);
+    let at = place as usize;
     let owner = access::half_at(owners, at);
     let value = access::word_at(values, at);
-    let needs = before(access::half_at(marks, at)) as u16;
+    let mark = access::half_at(marks, at);
+    let needs = one_less(mark);
     Last {
+        place: Place(place),
         owner: ModuleNo(owner),
         value: Version(value),
         needs: needs,
     }
 }
 
-// A version frame's entries: `count` versions of its module stand before it.
+// A version frame's entries for the version.
 pub fn keep_version(
     values: &mut [u32],
     owners: &mut [u16],
@@ -112,20 +113,21 @@ pub fn keep_need(
     f: Fields,
 )
     requires { ⌜ last .needs < 65534 ⌝ }
-    ensures marks { λ r. ⌜ now (marks .exit) ≡ keptAt (isNeed f) (s .versions - 1) (last .needs + 2) (now (marks .entry)) ⌝ }
-    ensures needies { λ r. ⌜ now (needies .exit) ≡ keptAt (isNeed f) (s .needs) (s .versions - 1) (now (needies .entry)) ⌝ }
+    ensures marks { λ r. ⌜ now (marks .exit) ≡ keptAt (isNeed f) (last .place .0) (last .needs + 2) (now (marks .entry)) ⌝ }
+    ensures needies { λ r. ⌜ now (needies .exit) ≡ keptAt (isNeed f) (s .needs) (last .place .0) (now (needies .entry)) ⌝ }
     ensures targets { λ r. ⌜ now (targets .exit) ≡ keptAt (isNeed f) (s .needs) (f .owner .0) (now (targets .entry)) ⌝ }
     ensures lows { λ r. ⌜ now (lows .exit) ≡ keptAt (isNeed f) (s .needs) (f .low .0) (now (lows .entry)) ⌝ }
     ensures highs { λ r. ⌜ now (highs .exit) ≡ keptAt (isNeed f) (s .needs) (f .high .0) (now (highs .entry)) ⌝ }
 {
     let wanted = (f.kind == NEED) | (f.kind == CARET);
     let at = s.needs as usize;
-    let place = before(s.versions);
+    let p = last.place;
+    let place = p.0 as usize;
     let m = f.owner;
     let low = f.low;
     let high = f.high;
     access::put_half(marks, wanted, place, last.needs + 2);
-    access::put_half(needies, wanted, at, place as u16);
+    access::put_half(needies, wanted, at, p.0);
     access::put_half(targets, wanted, at, m.0);
     access::put_word(lows, wanted, at, low.0);
     access::put_word(highs, wanted, at, high.0);
