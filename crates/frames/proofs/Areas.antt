@@ -1,16 +1,16 @@
--- A frame's line written into an area: stores one after the other are one run of stores, so the bytes written so far go on with the next, and
--- with the check byte and the line feed they are the frame's text. Assumes nothing.
-use mathlib.Core.Path.{_≡_, refl, sym, _∙_, ap}
-use mathlib.Core.List.{List, [], _∷_, _++_, append-assoc}
-use Prim.Native.Nat.{ℕ, zero, suc, _+_, _*_, _-_, _/_, _%_, _≤_, _<_}
+-- A frame's line in an area: a store behind a run of stores is a longer run, up to the check byte and the line feed. Assumes nothing.
+use mathlib.Core.Path.{_≡_, refl, _∙_, ap}
+use mathlib.Core.List.{List, [], _∷_, _++_}
+use Prim.Native.Nat.{ℕ, suc, _+_, _*_, _-_, _/_, _%_, _≤_, _<_}
 use native.Mathlib.Omega.{arith}
 use native.Mathlib.Numerals.{add-one}
-use lib.ListN.{length, getD, take, set, length-append, length-take}
+use lib.ListN.{length, getD, take, set, length-append}
 use lib.Seq.{sets, length-sets, take-suc, take-all, length-take-le}
 use Rattle.rules.specs.Lists.{sum}
 use Rattle.rules.specs.Lines.{lineFeed}
 use Rattle.rules.specs.Frames.{digitByte, hexOf, checked, frameText}
 
+-- A RUN OF STORES behind another is one run
 sets-append : (l : List ℕ) (i : ℕ) (xs ys : List ℕ) {j : ℕ} → j ≡ i + length xs → sets (sets l i xs) j ys ≡ sets l i (xs ++ ys)
 sets-append l i [] ys e = ap (λ (k : ℕ). sets l k ys) (omega arith)
 sets-append l i (a ∷ xs) ys e = sets-append (set l i a) (suc i) xs ys (omega arith)
@@ -72,11 +72,14 @@ module _ (old : List ℕ) (at : ℕ) (bytes : List ℕ) where
         b = getD bytes i 0
 
         taken : take (i + 1) bytes ≡ take i bytes ++ (b ∷ [])
-        taken = rw (add-one) (take-suc bytes i 0 h)
+        taken = rw add-one (take-suc bytes i 0 h)
 
-    pub finished : length bytes ≤ i → next ≡ sets area end (hexOf ((256 - total) % 256 ∷ [])) → set next (end + 2) lineFeed ≡ sets old at (frameText bytes)
+    pub finished : length bytes ≤ i → next ≡ sets area end (hexOf ((256 - total) % 256 ∷ [])) →
+        set next (end + 2) lineFeed ≡ sets old at (frameText bytes)
     unfolding frameText
-    finished h e = ap (λ (l : List ℕ). set l (end + 2) lineFeed) checked-stored ∙ sets-append old at (hexOf (checked bytes)) (lineFeed ∷ []) ends
+    finished h e =
+        ap (λ (l : List ℕ). set l (end + 2) lineFeed) checked-stored ∙
+        sets-append old at (hexOf (checked bytes)) (lineFeed ∷ []) ends
       where
         all-taken : take i bytes ≡ bytes
         all-taken = take-all i bytes h

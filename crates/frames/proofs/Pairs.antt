@@ -1,20 +1,17 @@
--- Pairs of digits and the lines of a text: what stands at a place, by what is found there, and how the lines, their bytes and their faults go on
--- from it. Assumes nothing.
-use mathlib.Core.Path.{_≡_, refl, sym, _∙_, ap}
-use mathlib.Core.Logic.{_⊎_, inl, inr, ⊎-elim, _≢_}
-use mathlib.Core.Bool.{Bool, true, false, _&&_, _||_, cond}
-use mathlib.Core.List.{List, [], _∷_, _++_, append-assoc, append-nil}
-use Prim.Native.Nat.{ℕ, zero, suc, _+_, _*_, _%_, _≤_, _<_}
+-- Pairs of digits: the pair at a place of a text tells what stands there, and what stands there tells the pair. Assumes nothing.
+use mathlib.Core.Path.{_≡_, refl, ap}
+use mathlib.Core.Logic.{⊎-elim, _≢_}
+use mathlib.Core.Bool.{Bool, true, false, _&&_, cond}
+use mathlib.Core.List.{List}
+use Prim.Native.Nat.{ℕ, _+_, _*_, _≤_, _<_}
 use native.Mathlib.Omega.{arith}
-use native.Mathlib.Numerals.{add-one}
 use lib.Dec.{ltb, leb, eqb}
 use borrow.Author.Tests.{ltb-true, ltb-false, leb-true, eqb-true, eqb-false, lt-ltb, le-ltb, le-leb, lt-leb, eq-eqb, ne-eqb}
-use lib.ListN.{length, getD, drop, length-append, drop-of-length-le}
-use lib.Seq.{drop-cons}
-use Rattle.rules.specs.Lists.{isIn, all}
-use Rattle.rules.specs.Lines.{Line, line, lineFeed, withByte, linesOf, isDigit, shapeFits, fault}
-use Rattle.rules.specs.Frames.{digitOf, frameOf, Reader, Read, bad, lineFault, readFrom}
-use Rattle.rules.proofs.Lists.{and-fst, and-snd, or-cases, true-or-false}
+use lib.ListN.{length, getD}
+use Rattle.rules.specs.Lists.{isIn}
+use Rattle.rules.specs.Lines.{lineFeed, isDigit}
+use Rattle.rules.specs.Frames.{digitOf}
+use Rattle.rules.proofs.Lists.{and-fst, and-snd, or-cases}
 use Rattle.frames.specs.Digits.{digitOr, pairOf, pairAt}
 use Rattle.frames.specs.declared.digits.Pair.{Pair}
 use Rattle.frames.specs.declared.digits.Pair.the-variants.{Byte, LineFeed, Wrong}
@@ -38,15 +35,15 @@ digit-range c e = ⊎-elim low high (or-cases (isIn 48 57 c) _ e)
 pub no-feed : (c : ℕ) → isDigit c ≡ true → c ≢ lineFeed
 no-feed c e p = let h = digit-range c e .0 in omega arith
 
--- a digit's value, read as 16 or more or as less
-pub digit-wrong : (c : ℕ) {r : ℕ} → r ≡ digitOr c → 16 ≤ r → isDigit c ≡ false
+-- a value of 16 or more is no digit's, and one below 16 is the digit's
+digit-wrong : (c : ℕ) {r : ℕ} → r ≡ digitOr c → 16 ≤ r → isDigit c ≡ false
 digit-wrong c {r} e h = go (isDigit c) refl e
   where
     go : (b : Bool) → isDigit c ≡ b → r ≡ cond b (digitOf c) 16 → b ≡ false
     go true p q = let s = digit-range c p .1 in absurd (omega arith)
     go false p q = refl
 
-pub digit-right : (c : ℕ) {r : ℕ} → r ≡ digitOr c → r < 16 → (isDigit c ≡ true) × (r ≡ digitOf c)
+digit-right : (c : ℕ) {r : ℕ} → r ≡ digitOr c → r < 16 → (isDigit c ≡ true) × (r ≡ digitOf c)
 digit-right c {r} e h = go (isDigit c) e
   where
     go : (b : Bool) → r ≡ cond b (digitOf c) 16 → (b ≡ true) × (r ≡ digitOf c)
@@ -54,17 +51,19 @@ digit-right c {r} e h = go (isDigit c) e
     go false q = absurd (omega arith)
 
 -- WHAT STANDS AT A PLACE
+-- two digits, and the byte that they are worth
 pub record IsByte (t : List ℕ) (i b : ℕ) : Type 0 where
   pub within : i + 2 ≤ length t
   pub first : isDigit (getD t i 0) ≡ true
   pub second : isDigit (getD t (i + 1) 0) ≡ true
   pub value : b ≡ 16 * digitOf (getD t i 0) + digitOf (getD t (i + 1) 0)
 
+-- no character; one that is neither a digit nor a line feed; a digit with no character behind it; a digit with something else behind it
 pub data IsWrong (t : List ℕ) (i : ℕ) : Type 0 where
   past : length t ≤ i → IsWrong t i
-  first : i < length t → getD t i 0 ≢ lineFeed → isDigit (getD t i 0) ≡ false → IsWrong t i
+  no-digit : i < length t → getD t i 0 ≢ lineFeed → isDigit (getD t i 0) ≡ false → IsWrong t i
   alone : i + 1 ≡ length t → isDigit (getD t i 0) ≡ true → IsWrong t i
-  second : i + 2 ≤ length t → isDigit (getD t i 0) ≡ true → isDigit (getD t (i + 1) 0) ≡ false → IsWrong t i
+  no-second : i + 2 ≤ length t → isDigit (getD t i 0) ≡ true → isDigit (getD t (i + 1) 0) ≡ false → IsWrong t i
 
 abbrev pub Stands : List ℕ → ℕ → Pair → Type 0
 Stands t i (Byte b) = IsByte t i b
@@ -72,6 +71,7 @@ Stands t i LineFeed = (i < length t) × (getD t i 0 ≡ lineFeed)
 Stands t i Wrong = IsWrong t i
 
 module _ (t : List ℕ) (i : ℕ) where
+  -- the pair tells what stands there,
   pub stands : Stands t i (pairAt t i)
   unfolding pairAt pairOf
   stands = inside (ltb i (length t)) refl
@@ -84,9 +84,9 @@ module _ (t : List ℕ) (i : ℕ) where
 
       digits : i < length t → c ≢ lineFeed → (x z y : Bool) → isDigit c ≡ x → ltb (i + 1) (length t) ≡ z → isDigit d ≡ y →
           Stands t i (cond (x && (z && y)) (Byte (16 * digitOf c + digitOf d)) Wrong)
-      digits h n false z y p q r = first h n p
+      digits h n false z y p q r = no-digit h n p
       digits h n true false y p q r = let g = ltb-false (i + 1) (length t) q in alone (omega arith) p
-      digits h n true true false p q r = let g = ltb-true (i + 1) (length t) q in second (omega arith) p r
+      digits h n true true false p q r = let g = ltb-true (i + 1) (length t) q in no-second (omega arith) p r
       digits h n true true true p q r =
           let g = ltb-true (i + 1) (length t) q in
           record { within = omega arith; first = p; second = r; value = refl }
@@ -100,6 +100,7 @@ module _ (t : List ℕ) (i : ℕ) where
       inside true e = found (ltb-true i (length t) e) (eqb c lineFeed) refl
       inside false e = past (ltb-false i (length t) e)
 
+  -- and what stands there tells the pair
   pub told : (p : Pair) → Stands t i p → p ≡ pairAt t i
   unfolding pairAt pairOf
   told (Byte b) s =
@@ -108,22 +109,22 @@ module _ (t : List ℕ) (i : ℕ) where
       (ap Byte (s .value))
   told LineFeed s = rw (lt-ltb i (length t) (s .0), eq-eqb _ _ (s .1))
   told Wrong (past h) = rw (le-ltb i (length t) h)
-  told Wrong (first h n e) = rw (lt-ltb i (length t) h, ne-eqb _ _ n, e)
+  told Wrong (no-digit h n e) = rw (lt-ltb i (length t) h, ne-eqb _ _ n, e)
   told Wrong (alone h e) =
       rw (lt-ltb i (length t) (omega arith), ne-eqb _ _ (no-feed _ e), e, le-ltb (i + 1) (length t) (omega arith))
-  told Wrong (second h e n) =
+  told Wrong (no-second h e n) =
       rw (lt-ltb i (length t) (omega arith), ne-eqb _ _ (no-feed _ e), e, lt-ltb (i + 1) (length t) (omega arith), n)
 
-  -- the same, by what the two characters are worth as digits
+  -- the same, by what the characters are worth as digits
   pub first-wrong : {x : ℕ} → x ≡ digitOr (getD t i 0) → 16 ≤ x → i < length t → getD t i 0 ≢ lineFeed → Wrong ≡ pairAt t i
-  first-wrong e g h n = told Wrong (first h n (digit-wrong (getD t i 0) e g))
+  first-wrong e g h n = told Wrong (no-digit h n (digit-wrong (getD t i 0) e g))
 
   pub second-missing : {x : ℕ} → x ≡ digitOr (getD t i 0) → x < 16 → i + 1 ≡ length t → Wrong ≡ pairAt t i
   second-missing e g h = told Wrong (alone h (digit-right (getD t i 0) e g .0))
 
   module _ {x y : ℕ} (e : x ≡ digitOr (getD t i 0)) (f : y ≡ digitOr (getD t (i + 1) 0)) (small : x < 16) (inside : i + 2 ≤ length t) where
     pub second-wrong : 16 ≤ y → Wrong ≡ pairAt t i
-    second-wrong g = told Wrong (second inside (digit-right (getD t i 0) e small .0) (digit-wrong (getD t (i + 1) 0) f g))
+    second-wrong g = told Wrong (no-second inside (digit-right (getD t i 0) e small .0) (digit-wrong (getD t (i + 1) 0) f g))
 
     pub both-right : y < 16 → Byte (x * 16 + y) ≡ pairAt t i
     both-right g =

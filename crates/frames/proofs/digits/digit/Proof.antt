@@ -5,23 +5,32 @@ use Rattle.frames.proofs.digits.digit.Statement.{statement}
 use Rattle.frames.proofs.digits.digit.Tie as tie
 
 returns : tie.Need-returns
-returns c = simp (lt-leb 48 (c .before .args .c) (c .if1 .taken), lt-leb 65 (c .before .args .c) (omega arith))
+returns c =
+    let d = c .before .args .c in
+    simp (lt-leb 48 d (omega arith), lt-leb 65 d (omega arith))
 
 returns-2 : tie.Need-returns-2
-returns-2 c = simp (le-leb 48 (c .before .before .args .c) (c .before .if1 .left), le-leb (c .before .before .args .c) 57 (c .if2 .taken))
+returns-2 c =
+    let d = c .before .before .args .c in
+    simp (le-leb 48 d (omega arith), le-leb d 57 (omega arith))
 
 returns-3 : tie.Need-returns-3
-returns-3 c = simp (le-leb 48 (c .before .before .before .args .c) (c .before .before .if1 .left), lt-leb (c .before .before .before .args .c) 57 (c .before .if2 .left), lt-leb 65 (c .before .before .before .args .c) (c .if3 .taken))
+returns-3 c =
+    let d = c .before .before .before .args .c in
+    simp (le-leb 48 d (omega arith), lt-leb d 57 (omega arith), lt-leb 65 d (omega arith))
 
 sub-result : tie.Need-sub-result
 sub-result c = omega arith
 
 returns-4 : tie.Need-returns-4
 returns-4 c =
-    simp (le-leb 48 (c .before .before .before .before .args .c) (c .before .before .before .if1 .left), lt-leb (c .before .before .before .before .args .c) 57 (c .before .before .if2 .left), le-leb 65 (c .before .before .before .before .args .c) (c .before .if3 .left), le-leb (c .before .before .before .before .args .c) 70 (c .if4 .taken))
+    let d = c .before .before .before .before .args .c in
+    simp (le-leb 48 d (omega arith), lt-leb d 57 (omega arith), le-leb 65 d (omega arith), le-leb d 70 (omega arith))
 
 returns-5 : tie.Need-returns-5
-returns-5 c = simp (le-leb 48 (c .before .before .before .before .args .c) (c .before .before .before .if1 .left), le-leb 65 (c .before .before .before .before .args .c) (c .before .if3 .left), lt-leb (c .before .before .before .before .args .c) 57 (c .before .before .if2 .left), lt-leb (c .before .before .before .before .args .c) 70 (c .if4 .left))
+returns-5 c =
+    let d = c .before .before .before .before .args .c in
+    simp (le-leb 48 d (omega arith), lt-leb d 57 (omega arith), le-leb 65 d (omega arith), lt-leb d 70 (omega arith))
 
 pub digit-spec : {M : Type 1} → statement M
 digit-spec = tie.close (tie.spec returns returns-2 returns-3 sub-result returns-4 returns-5)

@@ -34,7 +34,9 @@ digit-requires-2 : tie.Need-digit-requires-2
 digit-requires-2 c κs = search needs
 
 returns-5 : tie.Need-returns-5
-returns-5 c = second-wrong _ _ (c .before .before .before .before .before .digit .ensures) (c .before .digit2 .ensures) (c .before .before .before .before .if3 .left) (omega arith) (c .if5 .taken)
+returns-5 c =
+    let digit = c .before .before .before .before in
+    second-wrong _ _ (digit .before .digit .ensures) (c .before .digit2 .ensures) (digit .if3 .left) (omega arith) (c .if5 .taken)
 
 mul-t10 : tie.Need-mul-t10
 mul-t10 c = search needs
@@ -43,7 +45,9 @@ add-t12 : tie.Need-add-t12
 add-t12 c = search needs
 
 returns-6 : tie.Need-returns-6
-returns-6 c = both-right _ _ (c .before .before .before .before .before .digit .ensures) (c .before .digit2 .ensures) (c .before .before .before .before .if3 .left) (omega arith) (c .if5 .left)
+returns-6 c =
+    let digit = c .before .before .before .before in
+    both-right _ _ (digit .before .digit .ensures) (c .before .digit2 .ensures) (digit .if3 .left) (omega arith) (c .if5 .left)
 
 pub pair-at-spec : {M : Type 1} → statement M
 pair-at-spec =

@@ -1,5 +1,4 @@
--- `frames::kinds::row` meets its contract. The loop's invariant: looking in the rows from `i` on finds what looking in all of them finds. The code's
--- rows are those of the rules, by computation.
+-- `frames::kinds::row` meets its contract: looking in the rows from `i` on finds what looking in all finds. The rows are the rules', by computation.
 use mathlib.Core.Path.{_≡_, refl, sym, _∙_, ap}
 use mathlib.Core.Bool.{true, false, _&&_, cond}
 use mathlib.Core.List.{List, []}
@@ -60,7 +59,10 @@ array-copy-out-k c = omega arith
 
 returns : tie.Need-returns Inv-loop μ-loop
 unfolding kinds
-returns c = found kinds _ _ (c .before .before .before .before .before .loop .i) _ (List·getD-map rowOf kinds (c .before .before .before .before .before .loop .i) none) (c .before .before .before .before .loop-test .taken) (c .before .before .before .before .before .loop .inv .1) (c .if1 .taken)
+returns c =
+    let turn = c .before .before .before .before in
+    let i = turn .before .loop .i in
+    found kinds _ _ i _ (List·getD-map rowOf kinds i none) (turn .loop-test .taken) (turn .before .loop .inv .1) (c .if1 .taken)
 
 add-i : tie.Need-add-i Inv-loop μ-loop
 add-i c = omega arith
@@ -70,10 +72,12 @@ loop-less c = omega arith
 
 loop-again : tie.Need-loop-again Inv-loop μ-loop
 unfolding kinds
-loop-again c = (
-  omega arith,
-  passed kinds _ _ (c .before .before .before .before .before .loop .i) _ (List·getD-map rowOf kinds (c .before .before .before .before .before .loop .i) none) (c .before .before .before .before .loop-test .taken) (c .before .before .before .before .before .loop .inv .1) (c .if1 .left),
-)
+loop-again c =
+    let turn = c .before .before .before .before in
+    let i = turn .before .loop .i in (
+      omega arith,
+      passed kinds _ _ i _ (List·getD-map rowOf kinds i none) (turn .loop-test .taken) (turn .before .loop .inv .1) (c .if1 .left),
+    )
 
 returns-2 : tie.Need-returns-2 Inv-loop μ-loop
 unfolding rowIn kinds

@@ -1,6 +1,4 @@
 -- `frames::written::write_frame` meets its contract. The loop's invariant: the first `i` bytes are written, up to `end`, and summed.
--- The measure is the number of bytes left.
-use mathlib.Core.Path.{_≡_}
 use Prim.Native.Nat.{_-_}
 use native.Mathlib.Omega.{arith}
 use lib.ListN.{length, length-set}
@@ -39,7 +37,9 @@ loop-less : tie.Need-loop-less Inv-loop μ-loop
 loop-less c = omega arith
 
 loop-again : tie.Need-loop-again Inv-loop μ-loop
-loop-again c = one-more _ _ _ (c .before .before .before .before .before .before .loop .inv) (c .before .before .before .before .before .loop-test .taken) (c .before .before .write-byte .ensures)
+loop-again c =
+    let turn = c .before .before .before .before .before in
+    one-more _ _ _ (turn .before .loop .inv) (turn .loop-test .taken) (c .before .before .write-byte .ensures)
 
 sub-check : tie.Need-sub-check Inv-loop μ-loop
 sub-check c = omega arith
@@ -63,7 +63,9 @@ same-length : tie.Need-same-length Inv-loop μ-loop
 same-length c = simp length-set (omega arith)
 
 returns : tie.Need-returns Inv-loop μ-loop
-returns c = (omega arith, finished _ _ _ (c .before .before .before .before .before .loop .inv) (c .before .before .before .before .loop-test .left) (c .before .before .write-byte2 .ensures))
+returns c =
+    let turns = c .before .before .before .before in
+    (omega arith, finished _ _ _ (turns .before .loop .inv) (turns .loop-test .left) (c .before .before .write-byte2 .ensures))
 
 pub write-frame-spec : {M : Type 1} → statement M
 write-frame-spec =
