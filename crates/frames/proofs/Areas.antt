@@ -9,6 +9,7 @@ use lib.Seq.{sets, length-sets, take-suc, take-all, length-take-le}
 use Rattle.rules.specs.Lists.{sum}
 use Rattle.rules.specs.Lines.{lineFeed}
 use Rattle.rules.specs.Frames.{digitByte, hexOf, checked, frameText}
+use Rattle.rules.proofs.Written.{hex-length, sum-last}
 
 -- A RUN OF STORES behind another is one run
 sets-append : (l : List ℕ) (i : ℕ) (xs ys : List ℕ) {j : ℕ} → j ≡ i + length xs → sets (sets l i xs) j ys ≡ sets l i (xs ++ ys)
@@ -20,16 +21,6 @@ hex-append : (xs ys : List ℕ) → hexOf (xs ++ ys) ≡ hexOf xs ++ hexOf ys
 unfolding hexOf
 hex-append [] ys = refl
 hex-append (a ∷ xs) ys = rw (hex-append xs ys)
-
-hex-length : (ys : List ℕ) → length (hexOf ys) ≡ 2 * length ys
-unfolding hexOf
-hex-length [] = refl
-hex-length (b ∷ ys) = let e = hex-length ys in omega arith
-
-sum-last : (ys : List ℕ) (x : ℕ) → sum (ys ++ (x ∷ [])) ≡ sum ys + x
-unfolding sum
-sum-last [] x = omega arith
-sum-last (b ∷ ys) x = let e = sum-last ys x in omega arith
 
 -- A PAIR OF DIGITS is stored side by side
 pub byte-stored : (l : List ℕ) (at b : ℕ) {high low : ℕ} → high ≡ digitByte (b / 16) → low ≡ digitByte (b % 16) →

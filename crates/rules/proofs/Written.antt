@@ -52,7 +52,7 @@ digit-written c e = (
     written = rw e at passes
 
 -- HEX AND FRAMES
-hex-length : (bs : List ℕ) → length (hexOf bs) ≡ 2 * length bs
+pub hex-length : (bs : List ℕ) → length (hexOf bs) ≡ 2 * length bs
 unfolding hexOf
 hex-length [] = refl
 hex-length (b ∷ bs) = let e = hex-length bs in omega arith
@@ -90,7 +90,7 @@ hex-written (a ∷ b ∷ ds) e h =
     (rw (high, low, x .1, y .1, r .0), (omega arith, r .1), omega arith)
 
 -- CHECK BYTES
-sum-last : (bs : List ℕ) (x : ℕ) → sum (bs ++ (x ∷ [])) ≡ sum bs + x
+pub sum-last : (bs : List ℕ) (x : ℕ) → sum (bs ++ (x ∷ [])) ≡ sum bs + x
 unfolding sum
 sum-last [] x = omega arith
 sum-last (b ∷ bs) x = let e = sum-last bs x in omega arith
