@@ -2,4 +2,5 @@
 pub mod access;
 pub mod frame;
 pub mod limits;
+pub mod reading;
 pub mod tables;

@@ -2,3 +2,4 @@
 pub mod Pairs
 pub mod Areas
 pub mod Lines
+pub mod InLine

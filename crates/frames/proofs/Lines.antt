@@ -15,6 +15,7 @@ use Rattle.rules.specs.Lines.{fault, Line, line, lineFeed, withByte, linesOf, i
 use Rattle.rules.specs.Frames.{digitOf, frameOf, Reader, bad, lineFault, readFrom}
 use Rattle.rules.proofs.Lists.{same-or-not}
 use Rattle.frames.specs.Digits.{pairAt}
+use Rattle.frames.specs.Reached.{reachedFrom}
 use Rattle.frames.specs.declared.digits.Pair.the-variants.{Byte, LineFeed, Wrong}
 use Rattle.frames.proofs.Pairs.{no-feed, IsByte, IsWrong, past, no-digit, alone, no-second, Stands, stands}
 
@@ -139,61 +140,76 @@ shape-no-digit : (ds : List ℕ) (z : Bool) → all isDigit ds ≡ false → sha
 unfolding shapeFits
 shape-no-digit ds z e = rw e (and-false (z && leb 4 (length ds) && eqb (length ds % 2) 0))
 
--- A WRONG LINE is refused
-module _ {S : Type 0} (r : Reader S) (s : S) (n : ℕ) where
-  -- one that begins with the characters `ds` and whose shape does not fit
-  wrong-line : (ds : List ℕ) (ls : List Line) → 0 < length ds → shapeFits (line (ds ++ front ls .digits) (front ls .isEnded)) ≡ false →
-      readFrom r n s (withBytes ds ls) ≡ bad (fault 2 n)
-  unfolding readFrom lineFault
-  wrong-line ds ls h e = rw (bytes-line ds ls h, e)
+-- A WRONG LINE comes first
+pub data Misshapen : List Line → Type 0 where
+  misshapen : {l : Line} {ls : List Line} → shapeFits l ≡ false → Misshapen (l ∷ ls)
 
-  -- one with a character that is no digit
-  at-no-digit : (t : List ℕ) (i : ℕ) (ds : List ℕ) → i < length t → getD t i 0 ≢ lineFeed → isDigit (getD t i 0) ≡ false →
-      readFrom r n s (withBytes ds (linesOf (drop i t))) ≡ bad (fault 2 n)
-  unfolding all
-  at-no-digit t i ds h m e = rw (char-more t i ds h m) (wrong-line more ls longer (shape-no-digit _ (front ls .isEnded) not-all))
-    where
-      more : List ℕ
-      more = ds ++ (getD t i 0 ∷ [])
+-- one that begins with the characters `ds` and whose shape does not fit
+wrong-line : (ds : List ℕ) (ls : List Line) → 0 < length ds → shapeFits (line (ds ++ front ls .digits) (front ls .isEnded)) ≡ false →
+    Misshapen (withBytes ds ls)
+wrong-line ds ls h e = rw (bytes-line ds ls h) (misshapen e)
 
-      ls : List Line
-      ls = linesOf (drop (i + 1) t)
+-- one with a character that is no digit
+at-no-digit : (t : List ℕ) (i : ℕ) (ds : List ℕ) → i < length t → getD t i 0 ≢ lineFeed → isDigit (getD t i 0) ≡ false →
+    Misshapen (withBytes ds (linesOf (drop i t)))
+unfolding all
+at-no-digit t i ds h m e = rw (char-more t i ds h m) (wrong-line more ls longer (shape-no-digit _ (front ls .isEnded) not-all))
+  where
+    more : List ℕ
+    more = ds ++ (getD t i 0 ∷ [])
 
-      longer : 0 < length more
-      longer = rw (length-append ds (getD t i 0 ∷ [])) (omega arith)
+    ls : List Line
+    ls = linesOf (drop (i + 1) t)
 
-      not-all : all isDigit (more ++ front ls .digits) ≡ false
-      not-all = simp (all-append isDigit more (front ls .digits), all-append isDigit ds (getD t i 0 ∷ []), e, and-false)
+    longer : 0 < length more
+    longer = rw (length-append ds (getD t i 0 ∷ [])) (omega arith)
 
-  -- one at which something stands that is no pair of digits and no line feed
-  pub wrong-read : (t : List ℕ) (i : ℕ) (ds : List ℕ) → pairAt t i ≡ Wrong → length ds % 2 ≡ 0 → (i < length t) ⊎ (0 < length ds) →
-      readFrom r n s (withBytes ds (linesOf (drop i t))) ≡ bad (fault 2 n)
-  unfolding linesOf shapeFits
-  wrong-read t i ds e even some = go (rw e at (stands t i))
-    where
-      c : ℕ
-      c = getD t i 0
+    not-all : all isDigit (more ++ front ls .digits) ≡ false
+    not-all = simp (all-append isDigit more (front ls .digits), all-append isDigit ds (getD t i 0 ∷ []), e, and-false)
 
-      more : List ℕ
-      more = ds ++ (c ∷ [])
+-- one at which something stands that is no pair of digits and no line feed
+pub wrong-first : (t : List ℕ) (i : ℕ) (ds : List ℕ) → pairAt t i ≡ Wrong → length ds % 2 ≡ 0 → (i < length t) ⊎ (0 < length ds) →
+    Misshapen (withBytes ds (linesOf (drop i t)))
+unfolding linesOf shapeFits
+wrong-first t i ds e even some = go (rw e at (stands t i))
+  where
+    c : ℕ
+    c = getD t i 0
 
-      long : length more ≡ length ds + 1
-      long = length-append ds (c ∷ [])
+    more : List ℕ
+    more = ds ++ (c ∷ [])
 
-      -- at the text's end no line feed follows
-      no-end : (es : List ℕ) (j : ℕ) → length t ≤ j → 0 < length es → readFrom r n s (withBytes es (linesOf (drop j t))) ≡ bad (fault 2 n)
-      no-end es j h g = rw (drop-of-length-le t h) (wrong-line es [] g refl)
+    long : length more ≡ length ds + 1
+    long = length-append ds (c ∷ [])
 
-      -- a line feed after one digit leaves an odd number of digits
-      odd : getD t (i + 1) 0 ≡ lineFeed → i + 2 ≤ length t → readFrom r n s (withBytes more (linesOf (drop (i + 1) t))) ≡ bad (fault 2 n)
-      odd p h =
-          rw (drop-cons t (i + 1) 0 (omega arith), eq-eqb (getD t (i + 1) 0) lineFeed p)
-          (wrong-line more _ (omega (arith, long)) (rw (append-nil more) (shape-odd more true (omega (arith, long)))))
+    -- at the text's end no line feed follows
+    no-end : (es : List ℕ) (j : ℕ) → length t ≤ j → 0 < length es → Misshapen (withBytes es (linesOf (drop j t)))
+    no-end es j h g = rw (drop-of-length-le t h) (wrong-line es [] g refl)
 
-      go : IsWrong t i → readFrom r n s (withBytes ds (linesOf (drop i t))) ≡ bad (fault 2 n)
-      go (past h) = no-end ds i h (⊎-elim (λ g. absurd (omega arith)) (λ g. g) some)
-      go (no-digit h m p) = at-no-digit t i ds h m p
-      go (alone h p) = rw (char-more t i ds (omega arith) (no-feed c p)) (no-end more (i + 1) (omega arith) (omega (arith, long)))
-      go (no-second h p q) =
-          rw (char-more t i ds (omega arith) (no-feed c p))
-          (⊎-elim (λ x. odd x h) (λ x. at-no-digit t (i + 1) more (omega arith) x q) (same-or-not (getD t (i + 1) 0) lineFeed))
+    -- a line feed after one digit leaves an odd number of digits
+    odd : getD t (i + 1) 0 ≡ lineFeed → i + 2 ≤ length t → Misshapen (withBytes more (linesOf (drop (i + 1) t)))
+    odd p h =
+        rw (drop-cons t (i + 1) 0 (omega arith), eq-eqb (getD t (i + 1) 0) lineFeed p)
+        (wrong-line more _ (omega (arith, long)) (rw (append-nil more) (shape-odd more true (omega (arith, long)))))
+
+    go : IsWrong t i → Misshapen (withBytes ds (linesOf (drop i t)))
+    go (past h) = no-end ds i h (⊎-elim (λ g. absurd (omega arith)) (λ g. g) some)
+    go (no-digit h m p) = at-no-digit t i ds h m p
+    go (alone h p) = rw (char-more t i ds (omega arith) (no-feed c p)) (no-end more (i + 1) (omega arith) (omega (arith, long)))
+    go (no-second h p q) =
+        rw (char-more t i ds (omega arith) (no-feed c p))
+        (⊎-elim (λ x. odd x h) (λ x. at-no-digit t (i + 1) more (omega arith) x q) (same-or-not (getD t (i + 1) 0) lineFeed))
+
+-- and is refused, in the state that it was met in
+module _ {S : Type 0} (r : Reader S) (s : S) where
+  misshapen-fault : (l : Line) → shapeFits l ≡ false → lineFault r s l ≡ 2
+  unfolding lineFault
+  misshapen-fault l e = rw e
+
+  pub misshapen-read : (n : ℕ) {ls : List Line} → Misshapen ls → readFrom r n s ls ≡ bad (fault 2 n)
+  unfolding readFrom
+  misshapen-read n (misshapen {l} e) = rw (misshapen-fault l e)
+
+  pub misshapen-reached : {ls : List Line} → Misshapen ls → reachedFrom r s ls ≡ s
+  unfolding reachedFrom
+  misshapen-reached (misshapen {l} e) = rw (misshapen-fault l e)

@@ -2,3 +2,4 @@
 pub mod Numbers
 pub mod Digits
 pub mod Kinds
+pub mod Reached

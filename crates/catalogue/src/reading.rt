@@ -1,0 +1,141 @@
+// A catalogue's text read line by line, as far as the first faulty line.
+ghost use mathlib.Core.Path.{_≡_};
+ghost use Prim.Native.Nat.{_≤_};
+ghost use lib.ListN.{length};
+ghost use Rattle.catalogue.specs.Reading.{LinesRead, lineFaultOf};
+use crate::access;
+use crate::frame;
+use crate::frame::State;
+use crate::limits::MODULES;
+use crate::limits::NEEDS;
+use crate::limits::VERSIONS;
+use crate::tables;
+use crate::tables::Tables;
+use crate::tables::UNUSED;
+use frames::digits::Pair;
+use frames::digits::pair_at;
+use frames::fields::LONGEST;
+use frames::fields::put;
+use frames::kinds;
+
+// How far the reading came: the number of the first fault (0: none) and its line (one past the last), the state and the tables there.
+pub struct Lines {
+    pub number: u8,
+    pub line: u32,
+    pub state: State,
+    pub tables: Tables,
+}
+
+// 2, 3 and 4, and then what is wrong with the frame.
+fn line_fault(
+    bytes: usize,
+    sum: u32,
+    row: kinds::Kind,
+    s: State,
+    last: frame::Last,
+    count: u16,
+    f: frame::Fields,
+) -> u8
+    ensures { λ r. ⌜ r ≡ lineFaultOf bytes sum row s last count f ⌝ }
+{
+    if bytes < 2 {
+        return 2;
+    }
+    if sum != 0 {
+        return 3;
+    }
+    if row.digits as usize != bytes * 2 {
+        return 4;
+    }
+    frame::frame_fault(s, last, count, f)
+}
+
+// Lines of digits, a frame a line. The digit loop is left at the first character that can't stand, and the reading at the first faulty line.
+pub fn read_lines(text: &[u8]) -> Lines
+    requires { ⌜ length (now text) ≤ 32768 ⌝ }
+    ensures { λ r. ⌜ LinesRead (now (text .entry)) r ⌝ }
+{
+    let mut values = [0u32; VERSIONS as usize];
+    let mut owners = [0u16; VERSIONS as usize];
+    let mut starts = [0u16; VERSIONS as usize];
+    let mut marks = [UNUSED; VERSIONS as usize];
+    let mut firsts = [0u16; MODULES as usize];
+    let mut counts = [0u16; MODULES as usize];
+    let mut needies = [0u16; NEEDS as usize];
+    let mut targets = [0u16; NEEDS as usize];
+    let mut lows = [0u32; NEEDS as usize];
+    let mut highs = [0u32; NEEDS as usize];
+    let mut s = State {
+        stands: 0,
+        modules: 0,
+        versions: 0,
+        needs: 0,
+    };
+    let mut number: u8 = 0;
+    let mut line: u32 = 1;
+    let mut at: usize = 0;
+    'lines: while at < text.len() {
+        let mut bytes_read = [0u8; LONGEST];
+        let mut bytes: usize = 0;
+        let mut sum: u32 = 0;
+        'digits: loop {
+            let pair = pair_at(text, at);
+            match pair {
+                Pair::Byte(b) => {
+                    let longer = put(bytes_read, bytes, b);
+                    bytes_read = longer;
+                    bytes += 1;
+                    sum = (sum + b as u32) % 256;
+                    at += 2;
+                }
+                Pair::LineFeed => break 'digits,
+                Pair::Wrong => {
+                    number = 2;
+                    break 'lines;
+                }
+            }
+        }
+        let row = kinds::row(kinds::CATALOGUE, bytes_read[0]);
+        let f = frame::fields_of(bytes_read, row);
+        let last = tables::last_of(&values, &owners, &marks, s.versions);
+        let m = f.owner;
+        let count = access::half_at(&counts, m.0 as usize);
+        number = line_fault(bytes, sum, row, s, last, count, f);
+        if number != 0 {
+            break 'lines;
+        }
+        tables::keep_version(&mut values, &mut owners, &mut starts, &mut marks, s, f);
+        tables::keep_module(&mut firsts, &mut counts, s, count, f);
+        tables::keep_need(
+            &mut marks,
+            &mut needies,
+            &mut targets,
+            &mut lows,
+            &mut highs,
+            s,
+            last,
+            f,
+        );
+        s = frame::after(s, f);
+        at += 1;
+        line += 1;
+    }
+    let tables = Tables {
+        values,
+        owners,
+        starts,
+        marks,
+        firsts,
+        counts,
+        needies,
+        targets,
+        lows,
+        highs,
+    };
+    Lines {
+        number,
+        line,
+        state: s,
+        tables,
+    }
+}
