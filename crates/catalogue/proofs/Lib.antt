@@ -1,2 +1,4 @@
 -- Lemmas that the proofs of this crate share.
 pub mod Told
+pub mod Faults
+pub mod Judged
