@@ -36,6 +36,7 @@ fn line_fault(
     count: u16,
     f: frame::Fields,
 ) -> u8
+    requires { ⌜ bytes ≤ 32768 ⌝ }
     ensures { λ r. ⌜ r ≡ lineFaultOf bytes sum row s last count f ⌝ }
 {
     if bytes < 2 {

@@ -73,7 +73,7 @@ frame-read (b ∷ bs) h =
     (ap (λ (x : ℕ). x ∷ bs) (omega arith))
 
 -- an even number of digits is what the bytes of their frame are written as
-hex-written : (ds : List ℕ) → all isDigit ds ≡ true → length ds % 2 ≡ 0 →
+pub hex-written : (ds : List ℕ) → all isDigit ds ≡ true → length ds % 2 ≡ 0 →
     (hexOf (frameOf ds) ≡ ds) × Bytes (frameOf ds) × (length ds ≡ 2 * length (frameOf ds))
 unfolding hexOf frameOf all
 hex-written [] e h = (refl, tt, refl)
@@ -165,7 +165,7 @@ take-bytes (suc n) i f h =
     rw (drop-cons f i 0 (omega arith)) (ap (λ (x : List ℕ). byteAt f i ∷ x) (take-bytes n (suc i) f (omega arith)))
 
 -- each byte is below 256, and 0 past the end
-byte-small : (f : List ℕ) (i : ℕ) → Bytes f → byteAt f i < 256
+pub byte-small : (f : List ℕ) (i : ℕ) → Bytes f → byteAt f i < 256
 byte-small [] i h = omega arith
 byte-small (b ∷ f) zero h = h .0
 byte-small (b ∷ f) (suc i) h = byte-small f i (h .1)

@@ -1,39 +1,46 @@
+-- Each way out has passed the tests before it and failed its own. Assumes nothing.
+use Prim.Native.Nat.{_*_}
 use borrow.Author.Needs.{needs}
+use borrow.Author.Tests.{le-leb, lt-leb, eq-eqb, ne-eqb}
+use Rattle.catalogue.specs.Reading.{lineFaultOf}
 use Rattle.catalogue.proofs.reading.line_fault.Statement.{statement}
 use Rattle.catalogue.proofs.reading.line_fault.Tie as tie
-use Rattle.catalogue.proofs.reading.line_fault.Reads as reads
-use Rattle.catalogue.proofs.reading.line_fault.Lts as lts
-use Rattle.catalogue.proofs.frame.frame_fault.Reads as frame-fault-reads
 
--- src/reading.rt:42:9
 returns : tie.Need-returns
-returns c = search needs
+unfolding lineFaultOf
+returns c = rw (lt-leb 2 (c .before .args .bytes) (c .if1 .taken))
 
--- src/reading.rt:45:9
 returns-2 : tie.Need-returns-2
-returns-2 c = search needs
+unfolding lineFaultOf
+returns-2 c = rw (le-leb 2 (c .before .before .args .bytes) (c .before .if1 .left), ne-eqb (c .before .before .args .sum) 0 (c .if2 .taken))
 
--- src/reading.rt:47:8
 cast-if3 : tie.Need-cast-if3
 cast-if3 c = search needs
 
--- src/reading.rt:47:31
 mul-if3 : tie.Need-mul-if3
 mul-if3 c = search needs
 
--- src/reading.rt:48:9
 returns-3 : tie.Need-returns-3
-returns-3 c = search needs
+unfolding lineFaultOf
+returns-3 c =
+    rw (
+      le-leb 2 (c .before .before .before .before .args .bytes) (c .before .before .before .if1 .left),
+      eq-eqb (c .before .before .before .before .args .sum) 0 (c .before .before .if2 .left),
+      ne-eqb (c .before .before .before .before .args .row .digits) (c .before .before .before .before .args .bytes * 2) (c .if3 .taken),
+    )
 
--- src/reading.rt:50:5
 frame-fault-requires : tie.Need-frame-fault-requires
 frame-fault-requires c κs = search needs
 
--- src/reading.rt:30:1
 returns-4 : tie.Need-returns-4
-returns-4 c = search needs
+unfolding lineFaultOf
+returns-4 c =
+    rw (
+      le-leb 2 (c .before .before .before .before .before .args .bytes) (c .before .before .before .before .if1 .left),
+      eq-eqb (c .before .before .before .before .before .args .sum) 0 (c .before .before .before .if2 .left),
+      eq-eqb (c .before .before .before .before .before .args .row .digits) (c .before .before .before .before .before .args .bytes * 2) (c .before .if3 .left),
+    )
+    (c .frame-fault .ensures)
 
 pub line-fault-spec : {M : Type 1} → statement M
-line-fault-spec =
-    tie.close
-    (tie.spec returns returns-2 cast-if3 mul-if3 returns-3 frame-fault-requires returns-4)
+line-fault-spec = tie.close (tie.spec returns returns-2 cast-if3 mul-if3 returns-3 frame-fault-requires returns-4)

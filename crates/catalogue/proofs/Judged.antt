@@ -1,0 +1,118 @@
+-- A line's fault as the code finds it, from the bytes it has kept, is the reader's (line-judged). Assumes nothing.
+use mathlib.Core.Path.{_≡_, refl, sym, _∙_, ap, subst}
+use mathlib.Core.Logic.{_⊎_, inl, inr, ⊎-elim, _≢_}
+use mathlib.Core.Bool.{Bool, true, false}
+use mathlib.Core.List.{List}
+use Prim.Native.Nat.{ℕ, _+_, _*_, _%_, _≤_, _<_}
+use native.Mathlib.Omega.{arith}
+use lib.Dec.{leb, ltb, eqb}
+use lib.ListN.{length, List·getD-eq-default}
+use borrow.Author.Tests.{eq-eqb, ne-eqb, eqb-true, eqb-false, leb-true, ltb-true, ltb-false}
+use Rattle.rules.specs.Lines.{orElse, unless, Line, line, shapeFits}
+use Rattle.rules.specs.Frames.{frameOf, byteAt, kindOf, catalogues, kinds, rowIn, digitsFor, sumFits, kindFits, lineFault}
+use Rattle.rules.specs.Catalogue.{Reading, placesOf, limits, catalogueReader}
+use Rattle.rules.proofs.Lists.{true-or-false}
+use Rattle.rules.proofs.Written.{hex-written, byte-small}
+use Rattle.frames.specs.Kinds.{rowFor}
+use Rattle.frames.proofs.Lines.{frame-size, shape-size}
+use Rattle.frames.proofs.InLine.{longest, InLine}
+use Rattle.catalogue.specs.declared.frame.Fields.{Fields}
+use Rattle.catalogue.specs.Frame.{stateOf, lastOf, fieldsAt, frameFault, after}
+use Rattle.catalogue.specs.Reading.{lineFaultOf, reader}
+use Rattle.catalogue.proofs.Faults.{Known, known-kind, head, version, need, caret, end, fieldsIn, fault-law, after-law, bytes-fault, bytes-after, bytes-fields}
+
+-- equal tests in order, and what follows them where they pass
+in-order : (a b d : Bool) (x y : ℕ) → (a ≡ true → d ≡ true → x ≡ y) →
+    orElse (unless a 2) (orElse (unless b 3) (orElse (unless d 4) x)) ≡ orElse (unless a 2) (orElse (unless b 3) (orElse (unless d 4) y))
+in-order false b d x y h = refl
+in-order true false d x y h = refl
+in-order true true false x y h = refl
+in-order true true true x y h = rw (h refl refl)
+
+eqb-turned : (m n : ℕ) → eqb m n ≡ eqb n m
+eqb-turned m n = ⊎-elim (λ e. e ∙ sym (eq-eqb n m (sym (eqb-true m n e)))) (λ e. e ∙ sym (ne-eqb n m (λ p. eqb-false m n e (sym p)))) (true-or-false (eqb m n))
+
+-- no frame of a catalogue is longer than the longest
+digits-most : (k : ℕ) → digitsFor catalogues k ≢ 0 → digitsFor catalogues k ≤ 2 * longest
+unfolding rowIn kinds
+digits-most k h = go (known-kind k h)
+  where
+    go : Known k → digitsFor catalogues k ≤ 2 * longest
+    go (head e) = rw e (omega arith)
+    go (version e) = rw e (omega arith)
+    go (need e) = rw e (omega arith)
+    go (caret e) = rw e (omega arith)
+    go (end e) = rw e (omega arith)
+
+module _ (text : List ℕ) (from at : ℕ) (kept : List ℕ) (bytes total : ℕ) (q : InLine text from at kept bytes total) (u : Reading) where
+  abbrev pub frame : List ℕ
+  frame = frameOf (q .digits)
+
+  -- the fields, by the row of the kind of the bytes kept
+  abbrev pub fieldsKept : Fields
+  fieldsKept = fieldsAt (rowFor catalogues (byteAt kept 0) .first) (rowFor catalogues (byteAt kept 0) .second) (rowFor catalogues (byteAt kept 0) .third) kept
+
+  same-kind : byteAt kept 0 ≡ kindOf frame
+  same-kind = q .frame-is 0 (omega arith)
+
+  -- a line that fits its kind has all its bytes kept
+  module _ (fits : kindFits catalogues (line (q .digits) true) ≡ true) (some : leb 2 bytes ≡ true) where
+    known : digitsFor catalogues (kindOf frame) ≢ 0
+    unfolding kindFits
+    known z =
+        let size = frame-size (q .digits) (q .even) in
+        let two = leb-true 2 bytes some in
+        omega (arith, q .bytes-are, eqb-true (length (q .digits)) (digitsFor catalogues (kindOf frame)) fits)
+
+    short : length frame ≤ longest
+    unfolding kindFits
+    short =
+        let size = frame-size (q .digits) (q .even) in
+        omega (arith, digits-most (kindOf frame) known, eqb-true (length (q .digits)) (digitsFor catalogues (kindOf frame)) fits)
+
+    alike : (i : ℕ) → byteAt kept i ≡ byteAt frame i
+    alike i = ⊎-elim (λ h. q .frame-is i h) past (below-or-not i)
+      where
+        below-or-not : (j : ℕ) → (j < longest) ⊎ (longest ≤ j)
+        below-or-not j = ⊎-elim (λ e. inl (ltb-true j longest e)) (λ e. inr (ltb-false j longest e)) (true-or-false (ltb j longest))
+
+        past : longest ≤ i → byteAt kept i ≡ byteAt (frameOf (q .digits)) i
+        past h =
+            List·getD-eq-default kept 0 (omega (arith, q .size)) ∙
+            sym (List·getD-eq-default (frameOf (q .digits)) 0 (let s = short in omega arith))
+
+    pub bytes-small : (i : ℕ) → byteAt frame i < 256
+    bytes-small i = byte-small (frameOf (q .digits)) i (hex-written (q .digits) (q .good) (q .even) .1)
+
+    pub fields-same : fieldsKept ≡ fieldsIn frame
+    fields-same =
+        bytes-fields limits u frame kept alike _ _ _ ∙
+        ap (λ (k : ℕ). fieldsAt (rowFor catalogues k .first) (rowFor catalogues k .second) (rowFor catalogues k .third) frame) same-kind
+
+    -- what the code finds of the frame
+    frame-judged : frameFault limits (stateOf u) (lastOf (u .sofar)) (length (placesOf (u .sofar) (fieldsKept .owner .0))) fieldsKept ≡
+        reader .fault u frame
+    frame-judged = ap found fields-same ∙ fault-law limits u frame bytes-small known
+      where
+        found : Fields → ℕ
+        found g = frameFault limits (stateOf u) (lastOf (u .sofar)) (length (placesOf (u .sofar) (g .owner .0))) g
+
+  pub line-judged :
+      lineFaultOf bytes total (rowFor catalogues (byteAt kept 0)) (stateOf u) (lastOf (u .sofar))
+      (length (placesOf (u .sofar) (fieldsKept .owner .0))) fieldsKept ≡
+      lineFault reader u (line (q .digits) true)
+  unfolding lineFaultOf lineFault sumFits kindFits
+  line-judged =
+      rw (shape, total-same, kind-same) (in-order (leb 2 bytes) (sumFits l) (kindFits catalogues l) _ _ (λ a d. frame-judged d a))
+    where
+      l : Line
+      l = line (q .digits) true
+
+      shape : shapeFits l ≡ leb 2 bytes
+      shape = shape-size (q .digits) (q .good) (q .even) ∙ ap (leb 2) (sym (q .bytes-are))
+
+      total-same : eqb total 0 ≡ sumFits l
+      total-same = rw (q .total-is)
+
+      kind-same : eqb (rowFor catalogues (byteAt kept 0) .digits) (bytes * 2) ≡ kindFits catalogues l
+      kind-same = rw (same-kind, q .bytes-are, frame-size (q .digits) (q .even)) (eqb-turned (digitsFor catalogues (kindOf frame)) (length (q .digits)))
