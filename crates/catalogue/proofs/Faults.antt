@@ -21,16 +21,16 @@ use Rattle.catalogue.specs.Frame.{stateOf, lastOf, fieldsAt, checks, fra
 
 -- THE KINDS of a catalogue's frames
 pub data Known (kind : ℕ) : Type 0 where
-  head : kind ≡ 1 → Known kind
-  version : kind ≡ 2 → Known kind
-  need : kind ≡ 3 → Known kind
-  caret : kind ≡ 5 → Known kind
-  end : kind ≡ 4 → Known kind
+  a-head : kind ≡ 1 → Known kind
+  a-version : kind ≡ 2 → Known kind
+  a-need : kind ≡ 3 → Known kind
+  a-caret : kind ≡ 5 → Known kind
+  an-end : kind ≡ 4 → Known kind
 
 pub known-kind : (k : ℕ) → digitsFor catalogues k ≢ 0 → Known k
 unfolding rowIn kinds
 known-kind k h =
-    ⊎-elim head (λ a. ⊎-elim version (λ b. ⊎-elim need (λ c. ⊎-elim caret (λ d. ⊎-elim end (λ e. absurd (h (none a b c d e)))
+    ⊎-elim a-head (λ a. ⊎-elim a-version (λ b. ⊎-elim a-need (λ c. ⊎-elim a-caret (λ d. ⊎-elim an-end (λ e. absurd (h (none a b c d e)))
     (same-or-not k 4)) (same-or-not k 5)) (same-or-not k 3)) (same-or-not k 2)) (same-or-not k 1)
   where
     none : k ≢ 1 → k ≢ 2 → k ≢ 3 → k ≢ 5 → k ≢ 4 → digitsFor catalogues k ≡ 0
@@ -206,11 +206,11 @@ module _ (l : Limits) (u : Reading) (f : List ℕ) (bytes : (i : ℕ) → byteAt
   fault-law h = go (known-kind (kindOf f) h)
     where
       go : Known (kindOf f) → told (fieldsIn f) ≡ catalogueReader l .fault u f
-      go (head e) = ap told (head-fields f e) ∙ head-fault e
-      go (version e) = ap told (version-fields f e) ∙ version-fault e
-      go (need e) = ap told (need-fields f e) ∙ need-fault e
-      go (caret e) = ap told (caret-fields f e) ∙ caret-fault e
-      go (end e) = ap told (end-fields f e) ∙ end-fault e
+      go (a-head e) = ap told (head-fields f e) ∙ head-fault e
+      go (a-version e) = ap told (version-fields f e) ∙ version-fault e
+      go (a-need e) = ap told (need-fields f e) ∙ need-fault e
+      go (a-caret e) = ap told (caret-fields f e) ∙ caret-fault e
+      go (an-end e) = ap told (end-fields f e) ∙ end-fault e
 
 module _ (l : Limits) (u : Reading) (f : List ℕ) where
   -- the state after the frame, by the rules and, by the fields, by the code
@@ -244,11 +244,11 @@ module _ (l : Limits) (u : Reading) (f : List ℕ) where
   after-law h = go (known-kind (kindOf f) h)
     where
       go : Known (kindOf f) → next ≡ goes (fieldsIn f)
-      go (head e) = head-next e ∙ ap goes (sym (head-fields f e))
-      go (version e) = version-next e ∙ ap goes (sym (version-fields f e))
-      go (need e) = need-next e ∙ ap goes (sym (need-fields f e))
-      go (caret e) = caret-next e ∙ ap goes (sym (caret-fields f e))
-      go (end e) = end-next e ∙ ap goes (sym (end-fields f e))
+      go (a-head e) = head-next e ∙ ap goes (sym (head-fields f e))
+      go (a-version e) = version-next e ∙ ap goes (sym (version-fields f e))
+      go (a-need e) = need-next e ∙ ap goes (sym (need-fields f e))
+      go (a-caret e) = caret-next e ∙ ap goes (sym (caret-fields f e))
+      go (an-end e) = end-next e ∙ ap goes (sym (end-fields f e))
 
 -- NOTHING BUT THE BYTES counts
 module _ (l : Limits) (u : Reading) (f g : List ℕ) (alike : (i : ℕ) → byteAt g i ≡ byteAt f i) where

@@ -19,7 +19,7 @@ use Rattle.frames.proofs.InLine.{longest, InLine}
 use Rattle.catalogue.specs.declared.frame.Fields.{Fields}
 use Rattle.catalogue.specs.Frame.{stateOf, lastOf, fieldsAt, frameFault, after}
 use Rattle.catalogue.specs.Reading.{lineFaultOf, reader}
-use Rattle.catalogue.proofs.Faults.{Known, known-kind, head, version, need, caret, end, fieldsIn, fault-law, after-law, bytes-fault, bytes-after, bytes-fields}
+use Rattle.catalogue.proofs.Faults.{Known, known-kind, a-head, a-version, a-need, a-caret, an-end, fieldsIn, fault-law, after-law, bytes-fault, bytes-after, bytes-fields}
 
 -- equal tests in order, and what follows them where they pass
 in-order : (a b d : Bool) (x y : ℕ) → (a ≡ true → d ≡ true → x ≡ y) →
@@ -38,11 +38,11 @@ unfolding rowIn kinds
 digits-most k h = go (known-kind k h)
   where
     go : Known k → digitsFor catalogues k ≤ 2 * longest
-    go (head e) = rw e (omega arith)
-    go (version e) = rw e (omega arith)
-    go (need e) = rw e (omega arith)
-    go (caret e) = rw e (omega arith)
-    go (end e) = rw e (omega arith)
+    go (a-head e) = rw e (omega arith)
+    go (a-version e) = rw e (omega arith)
+    go (a-need e) = rw e (omega arith)
+    go (a-caret e) = rw e (omega arith)
+    go (an-end e) = rw e (omega arith)
 
 module _ (text : List ℕ) (from at : ℕ) (kept : List ℕ) (bytes total : ℕ) (q : InLine text from at kept bytes total) (u : Reading) where
   abbrev pub frame : List ℕ
@@ -57,7 +57,7 @@ module _ (text : List ℕ) (from at : ℕ) (kept : List ℕ) (bytes total : ℕ)
 
   -- a line that fits its kind has all its bytes kept
   module _ (fits : kindFits catalogues (line (q .digits) true) ≡ true) (some : leb 2 bytes ≡ true) where
-    known : digitsFor catalogues (kindOf frame) ≢ 0
+    pub known : digitsFor catalogues (kindOf frame) ≢ 0
     unfolding kindFits
     known z =
         let size = frame-size (q .digits) (q .even) in

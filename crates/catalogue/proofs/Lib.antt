@@ -2,3 +2,5 @@
 pub mod Told
 pub mod Faults
 pub mod Judged
+pub mod Kept
+pub mod Steps

@@ -1,0 +1,205 @@
+-- The loop over lines: what holds at the start of each line (AtLine), that a good line keeps it (line-kept), and what is owed when the reading stops
+-- at a faulty line (line-stops), at something wrong in it (wrong-stops) or at the end of the text (end-stops). Assumes nothing.
+use mathlib.Core.Path.{_≡_, refl, sym, _∙_, ap, subst}
+use mathlib.Core.Logic.{_≢_}
+use mathlib.Core.Bool.{Bool, true, false, cond}
+use mathlib.Core.List.{List, [], _∷_}
+use Prim.Native.Nat.{ℕ, suc, _+_, _≤_, _<_}
+use native.Mathlib.Omega.{arith}
+use native.Mathlib.Numerals.{add-one}
+use lib.Dec.{leb, eqb}
+use lib.ListN.{length, getD, drop, drop-of-length-le}
+use borrow.Author.Tests.{eq-eqb, ne-eqb}
+use Rattle.rules.specs.Lines.{fault, Line, line, linesOf}
+use Rattle.rules.specs.Frames.{frameOf, byteAt, kindOf, digitsFor, catalogues, Read, bad, lineFault, readFrom}
+use Rattle.rules.specs.Catalogue.{Catalogue, Reading, placesOf, limits, catalogueReader}
+use Rattle.rules.proofs.Readers.{Good, good-line}
+use Rattle.frames.specs.Digits.{pairAt}
+use Rattle.frames.specs.Reached.{reachedFrom}
+use Rattle.frames.specs.Kinds.{rowFor}
+use Rattle.frames.specs.declared.digits.Pair.the-variants.{LineFeed, Wrong}
+use Rattle.frames.proofs.Lines.{shape-size, misshapen-read, misshapen-reached}
+use Rattle.frames.proofs.InLine.{InLine, line-feed, line-wrong}
+use Rattle.catalogue.specs.declared.frame.Fields.{Fields}
+use Rattle.catalogue.specs.declared.frame.State.{State}
+use Rattle.catalogue.specs.declared.frame.Last.{Last}
+use Rattle.catalogue.specs.declared.tables.Tables.{Tables}
+use Rattle.catalogue.specs.declared.reading.Lines.{Lines}
+use Rattle.catalogue.specs.Frame.{stateOf, lastOf, fieldsAt, after}
+use Rattle.catalogue.specs.Tables.{Holds, kept, lastIn}
+use Rattle.catalogue.specs.Reading.{lineFaultOf, start, reader, reached, LinesRead}
+use Rattle.catalogue.proofs.Kept.{Tidy, Reads, noTables, reads-start, reads-step, count-law, last-law}
+use Rattle.catalogue.proofs.Judged.{known, bytes-small, fields-same, line-judged}
+use Rattle.catalogue.proofs.Faults.{fieldsIn, after-law}
+
+-- what the code gets of a line's bytes and of the tables
+abbrev pub fieldsHad : (bytes : List ℕ) → Fields
+fieldsHad f = fieldsAt (rowFor catalogues (byteAt f 0) .first) (rowFor catalogues (byteAt f 0) .second) (rowFor catalogues (byteAt f 0) .third) f
+
+abbrev pub lastHad : Tables → State → Last
+lastHad t s = lastIn (t .values) (t .owners) (t .marks) (s .versions)
+
+abbrev pub countHad : Tables → (bytes : List ℕ) → ℕ
+countHad t f = getD (t .counts) (fieldsHad f .owner .0) 0
+
+-- the line's fault, as the code finds it
+abbrev pub found : (bytes : List ℕ) → (size total : ℕ) → State → Tables → ℕ
+found f n x s t = lineFaultOf n x (rowFor catalogues (byteAt f 0)) s (lastHad t s) (countHad t f) (fieldsHad f)
+
+-- at the start of a line: the reading so far, what is kept of it, and that what is left of the text leads to where the whole text leads
+pub record AtLine (text : List ℕ) (at number : ℕ) (s : State) (t : Tables) : Type 0 where
+  pub u : Reading
+  pub within : at ≤ length text
+  pub first : 1 ≤ number
+  pub counted : number ≤ at + 1
+  pub told : s ≡ stateOf u
+  pub reads : Reads t u
+  pub rest : readFrom reader number u (linesOf (drop at text)) ≡ readFrom reader 1 start (linesOf text)
+  pub reach : reachedFrom reader u (linesOf (drop at text)) ≡ reached text
+
+pub at-start : (text : List ℕ) → AtLine text 0 1 (stateOf start) noTables
+at-start text =
+    record {
+      u = start;
+      within = omega arith;
+      first = omega arith;
+      counted = omega arith;
+      told = refl;
+      reads = reads-start;
+      rest = refl;
+      reach = refl;
+    }
+
+-- the reading stops where the first line left is faulty
+module _ (text : List ℕ) (at number : ℕ) (s : State) (t : Tables) (h : AtLine text at number s t) where
+  stops : (n : ℕ) → n ≢ 0 → readFrom reader number (h .u) (linesOf (drop at text)) ≡ bad (fault n number) →
+      reachedFrom reader (h .u) (linesOf (drop at text)) ≡ h .u → LinesRead text (record { number = n; line = number; state = s; tables = t })
+  stops n z e r =
+      record {
+        state = h .told ∙ ap stateOf here;
+        tables = subst (λ (v : Reading). Holds t (v .sofar)) here (h .reads .tidy .holds);
+        outcome = rw (ne-eqb n 0 z) (sym (h .rest) ∙ e);
+      }
+    where
+      here : h .u ≡ reached text
+      here = sym r ∙ h .reach
+
+  -- at the end of the text
+  pub end-stops : length text ≤ at → LinesRead text (record { number = 0; line = number; state = s; tables = t })
+  unfolding reachedFrom linesOf
+  end-stops z =
+      record {
+        state = h .told ∙ ap stateOf here;
+        tables = subst (λ (v : Reading). Holds t (v .sofar)) here (h .reads .tidy .holds);
+        outcome = sym (h .rest) ∙ (ap (λ (ls : List Line). readFrom reader number (h .u) ls) none ∙ ap (λ (v : Reading). readFrom reader number v []) here);
+      }
+    where
+      none : linesOf (drop at text) ≡ []
+      none = rw (drop-of-length-le text z)
+
+      here : h .u ≡ reached text
+      here = sym (ap (λ (ls : List Line). reachedFrom reader (h .u) ls) none) ∙ h .reach
+
+  module _ (to : ℕ) (bytes : List ℕ) (size total : ℕ) (q : InLine text at to bytes size total) where
+    -- at something wrong in the line
+    pub wrong-stops : pairAt text to ≡ Wrong → LinesRead text (record { number = 2; line = number; state = s; tables = t })
+    wrong-stops e =
+        let m = line-wrong text at to bytes size total q e in
+        stops 2 (omega arith) (misshapen-read reader (h .u) number m) (misshapen-reached reader (h .u) m)
+
+    module _ (e : pairAt text to ≡ LineFeed) where
+      whole : Line
+      whole = line (q .digits) true
+
+      lines : linesOf (drop at text) ≡ whole ∷ linesOf (drop (to + 1) text)
+      unfolding whole
+      lines = line-feed text at to bytes size total q e .1
+
+      -- what the code finds is the line's fault
+      found-law : found bytes size total s t ≡ lineFault reader (h .u) whole
+      unfolding whole
+      found-law =
+          rw (h .told, last-law (h .reads .tidy), count-law (h .reads .tidy) (fieldsHad bytes .owner .0))
+          (line-judged text at to bytes size total q (h .u))
+
+      -- at a faulty line
+      pub line-stops : found bytes size total s t ≢ 0 →
+          LinesRead text (record { number = found bytes size total s t; line = number; state = s; tables = t })
+      unfolding readFrom reachedFrom
+      line-stops z = stops (found bytes size total s t) z read reachs
+        where
+          nonzero : lineFault reader (h .u) whole ≢ 0
+          nonzero p = z (found-law ∙ p)
+
+          read : readFrom reader number (h .u) (linesOf (drop at text)) ≡ bad (fault (found bytes size total s t) number)
+          read = rw (lines, ne-eqb (lineFault reader (h .u) whole) 0 nonzero, found-law)
+
+          reachs : reachedFrom reader (h .u) (linesOf (drop at text)) ≡ h .u
+          reachs = rw (lines, ne-eqb (lineFault reader (h .u) whole) 0 nonzero)
+
+      -- a good line goes on to the next
+      pub line-kept : found bytes size total s t ≡ 0 →
+          AtLine text (to + 1) (number + 1) (after s (fieldsHad bytes)) (kept t s (lastHad t s) (countHad t bytes) (fieldsHad bytes))
+      unfolding readFrom reachedFrom whole
+      line-kept z =
+          record {
+            u = next;
+            within = let w = line-feed text at to bytes size total q e .0 in omega arith;
+            first = let o = h .first in omega arith;
+            counted = let o = h .counted in omega (arith, q .passed);
+            told = told;
+            reads = reads;
+            rest = rest;
+            reach = reach;
+          }
+        where
+          next : Reading
+          next = reader .after (h .u) (frameOf (q .digits))
+
+          good : lineFault reader (h .u) whole ≡ 0
+          good = sym found-law ∙ z
+
+          -- what a good line says of its bytes
+          fits : Good reader (h .u) whole
+          fits = good-line reader (h .u) whole good
+
+          some : leb 2 size ≡ true
+          some = ap (leb 2) (q .bytes-are) ∙ (sym (shape-size (q .digits) (q .good) (q .even)) ∙ fits .shape)
+
+          fields : fieldsHad bytes ≡ fieldsIn (frameOf (q .digits))
+          fields = fields-same text at to bytes size total q (h .u) (fits .kind) some
+
+          kind-known : digitsFor catalogues (kindOf (frameOf (q .digits))) ≢ 0
+          kind-known = known text at to bytes size total q (h .u) (fits .kind) some
+
+          told : after s (fieldsHad bytes) ≡ stateOf next
+          told = rw (h .told, fields) (sym (after-law limits (h .u) (frameOf (q .digits)) kind-known))
+
+          reads : Reads (kept t s (lastHad t s) (countHad t bytes) (fieldsHad bytes)) next
+          reads =
+              subst (λ (v : Tables). Reads v next) (sym same)
+              (reads-step (h .u) (frameOf (q .digits)) (h .reads) (bytes-small text at to bytes size total q (h .u) (fits .kind) some) kind-known
+              (fits .content))
+            where
+              c : Catalogue
+              c = h .u .sofar
+
+              same : kept t s (lastHad t s) (countHad t bytes) (fieldsHad bytes) ≡
+                  kept t (stateOf (h .u)) (lastOf c) (length (placesOf c (fieldsIn (frameOf (q .digits)) .owner .0))) (fieldsIn (frameOf (q .digits)))
+              same =
+                  ap (λ (v : State). kept t v (lastHad t v) (countHad t bytes) (fieldsHad bytes)) (h .told) ∙
+                  (ap (λ (z : Last). kept t (stateOf (h .u)) z (countHad t bytes) (fieldsHad bytes)) (last-law (h .reads .tidy)) ∙
+                  (ap (λ (n : ℕ). kept t (stateOf (h .u)) (lastOf c) n (fieldsHad bytes)) (count-law (h .reads .tidy) (fieldsHad bytes .owner .0)) ∙
+                  ap (λ (g : Fields). kept t (stateOf (h .u)) (lastOf c) (length (placesOf c (g .owner .0))) g) fields))
+
+          rest : readFrom reader (number + 1) next (linesOf (drop (to + 1) text)) ≡ readFrom reader 1 start (linesOf text)
+          rest = rw (add-one number) (sym step ∙ h .rest)
+            where
+              step : readFrom reader number (h .u) (linesOf (drop at text)) ≡ readFrom reader (suc number) next (linesOf (drop (to + 1) text))
+              step = rw (lines, good)
+
+          reach : reachedFrom reader next (linesOf (drop (to + 1) text)) ≡ reached text
+          reach = sym step ∙ h .reach
+            where
+              step : reachedFrom reader (h .u) (linesOf (drop at text)) ≡ reachedFrom reader next (linesOf (drop (to + 1) text))
+              step = rw (lines, good)
