@@ -2,7 +2,7 @@
 -- at a faulty line (line-stops), at something wrong in it (wrong-stops) or at the end of the text (end-stops). Assumes nothing.
 use mathlib.Core.Path.{_≡_, refl, sym, _∙_, ap, subst}
 use mathlib.Core.Logic.{_≢_}
-use mathlib.Core.Bool.{Bool, true, false, cond}
+use mathlib.Core.Bool.{Bool, true, false, _&&_, cond}
 use mathlib.Core.List.{List, [], _∷_}
 use Prim.Native.Nat.{ℕ, suc, _+_, _≤_, _<_}
 use native.Mathlib.Omega.{arith}
@@ -20,17 +20,34 @@ use Rattle.frames.specs.Kinds.{rowFor}
 use Rattle.frames.specs.declared.digits.Pair.the-variants.{LineFeed, Wrong}
 use Rattle.frames.proofs.Lines.{shape-size, misshapen-read, misshapen-reached}
 use Rattle.frames.proofs.InLine.{InLine, line-feed, line-wrong}
+use Rattle.frames.specs.declared.kinds.Kind.{Kind}
 use Rattle.catalogue.specs.declared.frame.Fields.{Fields}
 use Rattle.catalogue.specs.declared.frame.State.{State}
 use Rattle.catalogue.specs.declared.frame.Last.{Last}
 use Rattle.catalogue.specs.declared.tables.Tables.{Tables}
 use Rattle.catalogue.specs.declared.reading.Lines.{Lines}
 use Rattle.catalogue.specs.Frame.{stateOf, lastOf, fieldsAt, after}
-use Rattle.catalogue.specs.Tables.{Holds, kept, lastIn}
+use Rattle.catalogue.specs.Tables.{keptAt, isVersion, isNeed, Holds, kept, lastIn}
 use Rattle.catalogue.specs.Reading.{lineFaultOf, start, reader, reached, LinesRead}
 use Rattle.catalogue.proofs.Kept.{Tidy, Reads, noTables, reads-start, reads-step, count-law, last-law}
 use Rattle.catalogue.proofs.Judged.{known, bytes-small, fields-same, line-judged}
 use Rattle.catalogue.proofs.Faults.{fieldsIn, after-law}
+
+-- tables put together from their lists
+abbrev pub tablesFrom : (values owners starts marks firsts counts needies targets lows highs : List ℕ) → Tables
+tablesFrom vs os ss ms fs cs ns ts ls hs =
+    record {
+      values = vs;
+      owners = os;
+      starts = ss;
+      marks = ms;
+      firsts = fs;
+      counts = cs;
+      needies = ns;
+      targets = ts;
+      lows = ls;
+      highs = hs;
+    }
 
 -- what the code gets of a line's bytes and of the tables
 abbrev pub fieldsHad : (bytes : List ℕ) → Fields
@@ -203,3 +220,43 @@ module _ (text : List ℕ) (at number : ℕ) (s : State) (t : Tables) (h : AtLin
             where
               step : reachedFrom reader (h .u) (linesOf (drop at text)) ≡ reachedFrom reader next (linesOf (drop (to + 1) text))
               step = rw (lines, good)
+
+-- WHAT THE CALLS RETURN for a line: the row of its kind, its fields, the version last read, and how many versions its module has
+pub record Got (bytes : List ℕ) (s : State) (t : Tables) (row : Kind) (f : Fields) (z : Last) (n : ℕ) : Type 0 where
+  pub row-is : row ≡ rowFor catalogues (byteAt bytes 0)
+  pub fields-are : f ≡ fieldsAt (row .first) (row .second) (row .third) bytes
+  pub last-is : z ≡ lastHad t s
+  pub count-is : n ≡ getD (t .counts) (f .owner .0) 0
+
+module _ (bytes : List ℕ) (s : State) (t : Tables) (row : Kind) (f : Fields) (z : Last) (n : ℕ) (g : Got bytes s t row f z n) where
+  fields-had : f ≡ fieldsHad bytes
+  fields-had = g .fields-are ∙ ap (λ (r : Kind). fieldsAt (r .first) (r .second) (r .third) bytes) (g .row-is)
+
+  count-had : n ≡ countHad t bytes
+  count-had = g .count-is ∙ ap (λ (h : Fields). getD (t .counts) (h .owner .0) 0) fields-had
+
+  pub found-told : (size total : ℕ) → lineFaultOf size total row s z n f ≡ found bytes size total s t
+  found-told size total =
+      ap (λ (r : Kind). lineFaultOf size total r s z n f) (g .row-is) ∙
+      (ap (λ (y : Last). lineFaultOf size total (rowFor catalogues (byteAt bytes 0)) s y n f) (g .last-is) ∙
+      (ap (λ (k : ℕ). lineFaultOf size total (rowFor catalogues (byteAt bytes 0)) s (lastHad t s) k f) count-had ∙
+      ap (λ (h : Fields). lineFaultOf size total (rowFor catalogues (byteAt bytes 0)) s (lastHad t s) (countHad t bytes) h) fields-had))
+
+  pub kept-told : kept t s z n f ≡ kept t s (lastHad t s) (countHad t bytes) (fieldsHad bytes)
+  kept-told =
+      ap (λ (y : Last). kept t s y n f) (g .last-is) ∙
+      (ap (λ (k : ℕ). kept t s (lastHad t s) k f) count-had ∙
+      ap (λ (h : Fields). kept t s (lastHad t s) (countHad t bytes) h) fields-had)
+
+  pub after-told : after s f ≡ after s (fieldsHad bytes)
+  after-told = ap (after s) fields-had
+
+-- the tables after the three calls that keep a frame
+pub tables-told : (t : Tables) (s : State) (z : Last) (n : ℕ) (f : Fields) {vs os ss m ms fs cs ns ts ls hs : List ℕ} →
+    vs ≡ keptAt (isVersion f) (s .versions) (f .low .0) (t .values) → os ≡ keptAt (isVersion f) (s .versions) (f .owner .0) (t .owners) →
+    ss ≡ keptAt (isVersion f) (s .versions) (s .needs) (t .starts) → m ≡ keptAt (isVersion f) (s .versions) 1 (t .marks) →
+    fs ≡ keptAt (isVersion f && eqb n 0) (f .owner .0) (s .versions) (t .firsts) → cs ≡ keptAt (isVersion f) (f .owner .0) (n + 1) (t .counts) →
+    ms ≡ keptAt (isNeed f) (z .place .0) (z .needs + 2) m → ns ≡ keptAt (isNeed f) (s .needs) (z .place .0) (t .needies) →
+    ts ≡ keptAt (isNeed f) (s .needs) (f .owner .0) (t .targets) → ls ≡ keptAt (isNeed f) (s .needs) (f .low .0) (t .lows) →
+    hs ≡ keptAt (isNeed f) (s .needs) (f .high .0) (t .highs) → tablesFrom vs os ss ms fs cs ns ts ls hs ≡ kept t s z n f
+tables-told t s z n f a b c d e g h i j k l = rw (a, b, c, h, d, e, g, i, j, k, l)

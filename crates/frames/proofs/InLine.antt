@@ -130,3 +130,7 @@ module _ (text : List ℕ) where
 
     pub line-wrong : pairAt text at ≡ Wrong → Misshapen (linesOf (drop from text))
     line-wrong e = rw (q .lines) (wrong-first text at (q .digits) e (q .even) (q .begun))
+
+    -- a byte is two characters of the line
+    pub line-size : bytes * 2 + from ≡ at
+    line-size = omega (arith, frame-size (q .digits) (q .even), q .bytes-are, q .passed)

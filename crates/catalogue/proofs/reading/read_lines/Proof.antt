@@ -1,232 +1,176 @@
+-- The two loops of the reader. At the start of each line nothing is at fault and AtLine holds; inside a line InLine holds besides. Each way out of the
+-- loops is one of the stops of proofs/Steps.antt. Assumes nothing.
+use mathlib.Core.Path.{_≡_, refl, sym, _∙_, ap, subst, subst₂}
+use mathlib.Core.List.{List}
+use Prim.Native.Nat.{ℕ, _+_, _-_, _%_}
+use native.Mathlib.Omega.{arith}
+use lib.ListN.{length}
+use Rattle.frames.proofs.InLine.{InLine, line-start, line-byte, line-feed, line-size}
+use Rattle.frames.proofs.Lines.{byte-stands}
+use Rattle.catalogue.specs.Reading.{LinesRead}
+use Rattle.catalogue.specs.declared.tables.Tables.{Tables}
+use Rattle.catalogue.specs.declared.frame.State.{State}
+use Rattle.catalogue.specs.declared.frame.Last.{Last}
+use Rattle.catalogue.proofs.Steps.{AtLine, tablesFrom, at-start, end-stops, wrong-stops, line-stops, line-kept, found-told, kept-told, after-told, tables-told}
 use borrow.Author.Needs.{needs}
 use Rattle.catalogue.proofs.reading.read_lines.Statement.{statement}
 use Rattle.catalogue.proofs.reading.read_lines.Tie as tie
-use Rattle.catalogue.proofs.reading.read_lines.Reads as reads
-use Rattle.catalogue.proofs.reading.read_lines.Lts as lts
-use Rattle.catalogue.proofs.access.half_at.Reads as half-at-reads
-use Rattle.catalogue.proofs.frame.after.Reads as after-reads
-use Rattle.catalogue.proofs.frame.fields_of.Reads as fields-of-reads
-use Rattle.catalogue.proofs.reading.line_fault.Reads as line-fault-reads
-use Rattle.catalogue.proofs.tables.keep_module.Reads as keep-module-reads
-use Rattle.catalogue.proofs.tables.keep_need.Reads as keep-need-reads
-use Rattle.catalogue.proofs.tables.keep_version.Reads as keep-version-reads
-use Rattle.catalogue.proofs.tables.last_of.Reads as last-of-reads
-use Rattle.frames.proofs.digits.pair_at.Reads as pair-at-reads
-use Rattle.frames.proofs.fields.put.Reads as put-reads
-use Rattle.frames.proofs.kinds.row.Reads as row-reads
 
 abbrev Inv-digits : tie.InvT-digits
 Inv-digits text values owners starts marks firsts counts needies targets lows highs s number₀ line at₀ bytes-read₀ bytes₀ sum₀ number at bytes-read bytes sum =
-    ?
+    (number ≡ 0) × InLine text at₀ at bytes-read bytes sum
 
 abbrev μ-digits : tie.MeasureT-digits
 μ-digits text values owners starts marks firsts counts needies targets lows highs s number₀ line at₀ bytes-read₀ bytes₀ sum₀ number at bytes-read bytes sum =
-    ?
+    length text - at
 
 abbrev Inv-lines : tie.InvT-lines
-Inv-lines text values₀ owners₀ starts₀ marks₀ firsts₀ counts₀ needies₀ targets₀ lows₀ highs₀ s₀ number₀ line₀ at₀ values owners starts marks firsts counts needies targets lows highs s number line at =
-    ?
+Inv-lines text values₀ owners₀ starts₀ marks₀ firsts₀ counts₀ needies₀ targets₀ lows₀ highs₀ s₀ number₀ line₀ at₀
+    values owners starts marks firsts counts needies targets lows highs s number line at =
+    (number ≡ 0) × AtLine text at line s (tablesFrom values owners starts marks firsts counts needies targets lows highs)
 
 abbrev μ-lines : tie.MeasureT-lines
-μ-lines text values₀ owners₀ starts₀ marks₀ firsts₀ counts₀ needies₀ targets₀ lows₀ highs₀ s₀ number₀ line₀ at₀ values owners starts marks firsts counts needies targets lows highs s number line at =
-    ?
+μ-lines text values₀ owners₀ starts₀ marks₀ firsts₀ counts₀ needies₀ targets₀ lows₀ highs₀ s₀ number₀ line₀ at₀
+    values owners starts marks firsts counts needies targets lows highs s number line at =
+    length text - at
 
--- src/reading.rt:77:5
 lines-holds : tie.Need-lines-holds Inv-digits μ-digits Inv-lines μ-lines
-lines-holds c = search needs
+lines-holds c = (refl, at-start (c .before .args .text .now))
 
--- src/reading.rt:81:9
 digits-holds : tie.Need-digits-holds Inv-digits μ-digits Inv-lines μ-lines
-digits-holds c = search needs
+digits-holds c = (c .before .lines .inv .0, line-start (c .before .before .before .args .text .now) (c .before .lines .at) (c .lines-test .taken))
 
--- src/reading.rt:82:17
 pair-at-requires : tie.Need-pair-at-requires Inv-digits μ-digits Inv-lines μ-lines
 pair-at-requires c κs = search needs
 
--- src/reading.rt:84:28
 enum-known-pair : tie.Need-enum-known-pair Inv-digits μ-digits Inv-lines μ-lines
 enum-known-pair c = search needs
 
--- src/reading.rt:85:25
 put-requires : tie.Need-put-requires Inv-digits μ-digits Inv-lines μ-lines
 put-requires c κs = search needs
 
--- src/reading.rt:87:21
 add-bytes : tie.Need-add-bytes Inv-digits μ-digits Inv-lines μ-lines
-add-bytes c = search needs
+add-bytes c = omega (arith, line-size (c .before .before .before .before .before .before .before .before .before .args .text .now) (c .before .before .before .before .before .before .before .lines .at) (c .before .before .before .before .before .digits .at) (c .before .before .before .before .before .digits .bytes-read) (c .before .before .before .before .before .digits .bytes) (c .before .before .before .before .before .digits .sum) (c .before .before .before .before .before .digits .inv .1), c .before .before .before .before .before .before .before .before .before .pre)
 
--- src/reading.rt:88:34
 cast-sum : tie.Need-cast-sum Inv-digits μ-digits Inv-lines μ-lines
 cast-sum c = search needs
 
--- src/reading.rt:88:28
 add-sum : tie.Need-add-sum Inv-digits μ-digits Inv-lines μ-lines
 add-sum c = search needs
 
--- src/reading.rt:89:21
 add-at : tie.Need-add-at Inv-digits μ-digits Inv-lines μ-lines
-add-at c = search needs
+add-at c = omega (arith, byte-stands (c .before .before .before .before .before .before .before .before .before .args .text .now) (c .before .before .before .before .before .digits .at) _ (sym (c .before .before .before .before .pair-at .ensures) ∙ c .before .before .pair .given .1) .within, c .before .before .before .before .before .before .before .before .before .pre)
 
--- src/reading.rt:81:9
 digits-less : tie.Need-digits-less Inv-digits μ-digits Inv-lines μ-lines
-digits-less c = search needs
+digits-less c = omega (arith, byte-stands (c .before .before .before .before .before .before .before .before .before .args .text .now) (c .before .before .before .before .before .digits .at) _ (sym (c .before .before .before .before .pair-at .ensures) ∙ c .before .before .pair .given .1) .within)
 
--- src/reading.rt:81:9
 digits-again : tie.Need-digits-again Inv-digits μ-digits Inv-lines μ-lines
-digits-again c = search needs
+digits-again c = (c .before .before .before .before .before .digits .inv .0, subst (λ (f : List ℕ). InLine (c .before .before .before .before .before .before .before .before .before .args .text .now) (c .before .before .before .before .before .before .before .lines .at) (c .before .before .before .before .before .digits .at + 2) f (c .before .before .before .before .before .digits .bytes + 1) ((c .before .before .before .before .before .digits .sum + c .before .before .pair .given .0 .0) % 256)) (sym (c .put .ensures)) (line-byte (c .before .before .before .before .before .before .before .before .before .args .text .now) (c .before .before .before .before .before .before .before .lines .at) (c .before .before .before .before .before .digits .at) (c .before .before .before .before .before .digits .bytes-read) (c .before .before .before .before .before .digits .bytes) (c .before .before .before .before .before .digits .sum) (c .before .before .before .before .before .digits .inv .1) _ (sym (c .before .before .before .before .pair-at .ensures) ∙ c .before .before .pair .given .1)))
 
--- src/reading.rt:91:35
 enum-told : tie.Need-enum-told Inv-digits μ-digits Inv-lines μ-lines
 enum-told c = search needs
 
--- src/reading.rt:93:21
 enum-told-2 : tie.Need-enum-told-2 Inv-digits μ-digits Inv-lines μ-lines
 enum-told-2 c = search needs
 
--- src/reading.rt:98:48
 array-read-row : tie.Need-array-read-row Inv-digits μ-digits Inv-lines μ-lines
 array-read-row c = search needs
 
--- src/reading.rt:98:13
 row-requires : tie.Need-row-requires Inv-digits μ-digits Inv-lines μ-lines
 row-requires c κs = search needs
 
--- src/reading.rt:99:13
 fields-of-requires : tie.Need-fields-of-requires Inv-digits μ-digits Inv-lines μ-lines
 fields-of-requires c κs = search needs
 
--- src/reading.rt:100:36
 slice-aggregate-last-of : tie.Need-slice-aggregate-last-of Inv-digits μ-digits Inv-lines μ-lines
-slice-aggregate-last-of c = search needs
+slice-aggregate-last-of c = sym (c .before .before .before .before .before .before .before .before .lines .inv .1 .reads .tidy .sizes .values)
 
--- src/reading.rt:100:45
-slice-aggregate-last-of-2 :
-    tie.Need-slice-aggregate-last-of-2 Inv-digits μ-digits Inv-lines μ-lines
-slice-aggregate-last-of-2 c = search needs
+slice-aggregate-last-of-2 : tie.Need-slice-aggregate-last-of-2 Inv-digits μ-digits Inv-lines μ-lines
+slice-aggregate-last-of-2 c = sym (c .before .before .before .before .before .before .before .before .before .lines .inv .1 .reads .tidy .sizes .owners)
 
--- src/reading.rt:100:54
-slice-aggregate-last-of-3 :
-    tie.Need-slice-aggregate-last-of-3 Inv-digits μ-digits Inv-lines μ-lines
-slice-aggregate-last-of-3 c = search needs
+slice-aggregate-last-of-3 : tie.Need-slice-aggregate-last-of-3 Inv-digits μ-digits Inv-lines μ-lines
+slice-aggregate-last-of-3 c = sym (c .before .before .before .before .before .before .before .before .before .before .lines .inv .1 .reads .tidy .sizes .marks)
 
--- src/reading.rt:100:13
 last-of-requires : tie.Need-last-of-requires Inv-digits μ-digits Inv-lines μ-lines
 last-of-requires c κs = search needs
 
--- src/reading.rt:102:37
 slice-aggregate-half-at : tie.Need-slice-aggregate-half-at Inv-digits μ-digits Inv-lines μ-lines
-slice-aggregate-half-at c = search needs
+slice-aggregate-half-at c = sym (c .before .before .before .before .before .before .before .before .before .before .before .before .before .lines .inv .1 .reads .tidy .sizes .counts)
 
--- src/reading.rt:102:46
 cast-half-at : tie.Need-cast-half-at Inv-digits μ-digits Inv-lines μ-lines
 cast-half-at c = search needs
 
--- src/reading.rt:102:13
 half-at-requires : tie.Need-half-at-requires Inv-digits μ-digits Inv-lines μ-lines
 half-at-requires c κs = search needs
 
--- src/reading.rt:103:9
 line-fault-requires : tie.Need-line-fault-requires Inv-digits μ-digits Inv-lines μ-lines
-line-fault-requires c κs = search needs
+line-fault-requires c κs = omega (arith, line-size (c .before .before .before .before .before .before .before .before .before .before .before .before .before .before .before .before .before .args .text .now) (c .before .before .before .before .before .before .before .before .before .before .before .before .before .before .before .lines .at) (c .before .before .before .before .before .before .before .before .before .before .before .before .before .digits .at) (c .before .before .before .before .before .before .before .before .before .before .before .before .before .digits .bytes-read) (c .before .before .before .before .before .before .before .before .before .before .before .before .before .digits .bytes) (c .before .before .before .before .before .before .before .before .before .before .before .before .before .digits .sum) (c .before .before .before .before .before .before .before .before .before .before .before .before .before .digits .inv .1), c .before .before .before .before .before .before .before .before .before .before .before .before .before .digits .inv .1 .within, c .before .before .before .before .before .before .before .before .before .before .before .before .before .before .before .before .before .pre)
 
--- src/reading.rt:107:30
-slice-aggregate-keep-version :
-    tie.Need-slice-aggregate-keep-version Inv-digits μ-digits Inv-lines μ-lines
-slice-aggregate-keep-version c = search needs
+slice-aggregate-keep-version : tie.Need-slice-aggregate-keep-version Inv-digits μ-digits Inv-lines μ-lines
+slice-aggregate-keep-version c = sym (c .before .before .before .before .before .before .before .before .before .before .before .before .before .before .before .before .before .before .lines .inv .1 .reads .tidy .sizes .values)
 
--- src/reading.rt:107:43
-slice-aggregate-keep-version-2 :
-    tie.Need-slice-aggregate-keep-version-2 Inv-digits μ-digits Inv-lines μ-lines
-slice-aggregate-keep-version-2 c = search needs
+slice-aggregate-keep-version-2 : tie.Need-slice-aggregate-keep-version-2 Inv-digits μ-digits Inv-lines μ-lines
+slice-aggregate-keep-version-2 c = sym (c .before .before .before .before .before .before .before .before .before .before .before .before .before .before .before .before .before .before .before .lines .inv .1 .reads .tidy .sizes .owners)
 
--- src/reading.rt:107:56
-slice-aggregate-keep-version-3 :
-    tie.Need-slice-aggregate-keep-version-3 Inv-digits μ-digits Inv-lines μ-lines
-slice-aggregate-keep-version-3 c = search needs
+slice-aggregate-keep-version-3 : tie.Need-slice-aggregate-keep-version-3 Inv-digits μ-digits Inv-lines μ-lines
+slice-aggregate-keep-version-3 c = sym (c .before .before .before .before .before .before .before .before .before .before .before .before .before .before .before .before .before .before .before .before .lines .inv .1 .reads .tidy .sizes .starts)
 
--- src/reading.rt:107:69
-slice-aggregate-keep-version-4 :
-    tie.Need-slice-aggregate-keep-version-4 Inv-digits μ-digits Inv-lines μ-lines
-slice-aggregate-keep-version-4 c = search needs
+slice-aggregate-keep-version-4 : tie.Need-slice-aggregate-keep-version-4 Inv-digits μ-digits Inv-lines μ-lines
+slice-aggregate-keep-version-4 c = sym (c .before .before .before .before .before .before .before .before .before .before .before .before .before .before .before .before .before .before .before .before .before .lines .inv .1 .reads .tidy .sizes .marks)
 
--- src/reading.rt:107:9
 keep-version-requires : tie.Need-keep-version-requires Inv-digits μ-digits Inv-lines μ-lines
 keep-version-requires c κs = search needs
 
--- src/reading.rt:108:29
-slice-aggregate-keep-module :
-    tie.Need-slice-aggregate-keep-module Inv-digits μ-digits Inv-lines μ-lines
-slice-aggregate-keep-module c = search needs
+slice-aggregate-keep-module : tie.Need-slice-aggregate-keep-module Inv-digits μ-digits Inv-lines μ-lines
+slice-aggregate-keep-module c = sym (c .before .before .before .before .before .before .before .before .before .before .before .before .before .before .before .before .before .before .before .before .before .before .before .before .before .before .before .lines .inv .1 .reads .tidy .sizes .firsts)
 
--- src/reading.rt:108:42
-slice-aggregate-keep-module-2 :
-    tie.Need-slice-aggregate-keep-module-2 Inv-digits μ-digits Inv-lines μ-lines
-slice-aggregate-keep-module-2 c = search needs
+slice-aggregate-keep-module-2 : tie.Need-slice-aggregate-keep-module-2 Inv-digits μ-digits Inv-lines μ-lines
+slice-aggregate-keep-module-2 c = sym (c .before .before .before .before .before .before .before .before .before .before .before .before .before .before .before .before .before .before .before .before .before .before .before .before .before .before .before .before .lines .inv .1 .reads .tidy .sizes .counts)
 
--- src/reading.rt:108:9
 keep-module-requires : tie.Need-keep-module-requires Inv-digits μ-digits Inv-lines μ-lines
-keep-module-requires c κs = search needs
+keep-module-requires c κs = omega (arith, c .before .before .before .before .before .before .before .before .before .before .before .before .before .before .before .before .before .before .before .before .before .before .before .before .before .before .before .before .lines .inv .1 .reads .tidy .counts-fit (c .before .before .before .before .before .before .before .before .before .before .before .before .before .before .before .before .before .before .before .before .before .fields-of .result .owner .0), c .before .before .before .before .before .before .before .before .before .before .before .before .before .half-at .ensures)
 
--- src/reading.rt:110:13
-slice-aggregate-keep-need :
-    tie.Need-slice-aggregate-keep-need Inv-digits μ-digits Inv-lines μ-lines
-slice-aggregate-keep-need c = search needs
+slice-aggregate-keep-need : tie.Need-slice-aggregate-keep-need Inv-digits μ-digits Inv-lines μ-lines
+slice-aggregate-keep-need c = sym (c .before .before .before .before .before .before .before .before .before .before .keep-version .kept .1 .1 .1 .0 ∙ c .before .before .before .before .before .before .before .before .before .before .before .before .before .before .before .before .before .before .before .before .before .before .before .before .before .before .before .before .before .before .before .before .lines .inv .1 .reads .tidy .sizes .marks)
 
--- src/reading.rt:111:13
-slice-aggregate-keep-need-2 :
-    tie.Need-slice-aggregate-keep-need-2 Inv-digits μ-digits Inv-lines μ-lines
-slice-aggregate-keep-need-2 c = search needs
+slice-aggregate-keep-need-2 : tie.Need-slice-aggregate-keep-need-2 Inv-digits μ-digits Inv-lines μ-lines
+slice-aggregate-keep-need-2 c = sym (c .before .before .before .before .before .before .before .before .before .before .before .before .before .before .before .before .before .before .before .before .before .before .before .before .before .before .before .before .before .before .before .before .before .lines .inv .1 .reads .tidy .sizes .needies)
 
--- src/reading.rt:112:13
-slice-aggregate-keep-need-3 :
-    tie.Need-slice-aggregate-keep-need-3 Inv-digits μ-digits Inv-lines μ-lines
-slice-aggregate-keep-need-3 c = search needs
+slice-aggregate-keep-need-3 : tie.Need-slice-aggregate-keep-need-3 Inv-digits μ-digits Inv-lines μ-lines
+slice-aggregate-keep-need-3 c = sym (c .before .before .before .before .before .before .before .before .before .before .before .before .before .before .before .before .before .before .before .before .before .before .before .before .before .before .before .before .before .before .before .before .before .before .lines .inv .1 .reads .tidy .sizes .targets)
 
--- src/reading.rt:113:13
-slice-aggregate-keep-need-4 :
-    tie.Need-slice-aggregate-keep-need-4 Inv-digits μ-digits Inv-lines μ-lines
-slice-aggregate-keep-need-4 c = search needs
+slice-aggregate-keep-need-4 : tie.Need-slice-aggregate-keep-need-4 Inv-digits μ-digits Inv-lines μ-lines
+slice-aggregate-keep-need-4 c = sym (c .before .before .before .before .before .before .before .before .before .before .before .before .before .before .before .before .before .before .before .before .before .before .before .before .before .before .before .before .before .before .before .before .before .before .before .lines .inv .1 .reads .tidy .sizes .lows)
 
--- src/reading.rt:114:13
-slice-aggregate-keep-need-5 :
-    tie.Need-slice-aggregate-keep-need-5 Inv-digits μ-digits Inv-lines μ-lines
-slice-aggregate-keep-need-5 c = search needs
+slice-aggregate-keep-need-5 : tie.Need-slice-aggregate-keep-need-5 Inv-digits μ-digits Inv-lines μ-lines
+slice-aggregate-keep-need-5 c = sym (c .before .before .before .before .before .before .before .before .before .before .before .before .before .before .before .before .before .before .before .before .before .before .before .before .before .before .before .before .before .before .before .before .before .before .before .before .lines .inv .1 .reads .tidy .sizes .highs)
 
--- src/reading.rt:109:9
 keep-need-requires : tie.Need-keep-need-requires Inv-digits μ-digits Inv-lines μ-lines
-keep-need-requires c κs = search needs
+keep-need-requires c κs = omega (arith, c .before .before .before .before .before .before .before .before .before .before .before .before .before .before .before .before .before .before .before .before .before .before .before .before .before .before .before .before .before .before .before .before .before .before .before .before .lines .inv .1 .reads .tidy .marks-fit (c .before .before .before .before .before .before .before .before .before .before .before .before .before .before .before .before .before .before .before .before .before .before .before .before .before .before .before .before .before .before .before .before .before .before .before .before .lines .s .versions - 1), ap (λ (z : Last). z .needs) (c .before .before .before .before .before .before .before .before .before .before .before .before .before .before .before .before .before .before .before .before .before .before .before .before .before .last-of .ensures))
 
--- src/reading.rt:119:9
 after-requires : tie.Need-after-requires Inv-digits μ-digits Inv-lines μ-lines
-after-requires c κs = search needs
+after-requires c κs = (omega (arith, c .before .before .before .before .before .before .before .before .before .before .before .before .before .before .before .before .before .before .before .before .before .before .before .before .before .before .before .before .before .before .before .before .before .before .before .before .before .before .before .before .before .before .lines .inv .1 .reads .tidy .versions-fit, ap (λ (v : State). v .versions) (c .before .before .before .before .before .before .before .before .before .before .before .before .before .before .before .before .before .before .before .before .before .before .before .before .before .before .before .before .before .before .before .before .before .before .before .before .before .before .before .before .before .before .lines .inv .1 .told)), omega (arith, c .before .before .before .before .before .before .before .before .before .before .before .before .before .before .before .before .before .before .before .before .before .before .before .before .before .before .before .before .before .before .before .before .before .before .before .before .before .before .before .before .before .before .lines .inv .1 .reads .tidy .needs-fit, ap (λ (v : State). v .needs) (c .before .before .before .before .before .before .before .before .before .before .before .before .before .before .before .before .before .before .before .before .before .before .before .before .before .before .before .before .before .before .before .before .before .before .before .before .before .before .before .before .before .before .lines .inv .1 .told)))
 
--- src/reading.rt:120:9
 add-at-2 : tie.Need-add-at-2 Inv-digits μ-digits Inv-lines μ-lines
-add-at-2 c = search needs
+add-at-2 c = omega (arith, line-feed (c .before .before .before .before .before .before .before .before .before .before .before .before .before .before .before .before .before .before .before .before .before .before .before .before .before .before .before .before .before .before .before .before .before .before .before .before .before .before .before .before .before .before .before .before .before .args .text .now) (c .before .before .before .before .before .before .before .before .before .before .before .before .before .before .before .before .before .before .before .before .before .before .before .before .before .before .before .before .before .before .before .before .before .before .before .before .before .before .before .before .before .before .before .lines .at) (c .before .before .before .before .before .before .before .before .before .before .before .before .before .before .before .before .before .before .before .before .before .before .before .before .before .before .before .before .before .before .before .before .before .before .before .before .before .before .before .before .before .digits .at) (c .before .before .before .before .before .before .before .before .before .before .before .before .before .before .before .before .before .before .before .before .before .before .before .before .before .before .before .before .before .before .before .before .before .before .before .before .before .before .before .before .before .digits .bytes-read) (c .before .before .before .before .before .before .before .before .before .before .before .before .before .before .before .before .before .before .before .before .before .before .before .before .before .before .before .before .before .before .before .before .before .before .before .before .before .before .before .before .before .digits .bytes) (c .before .before .before .before .before .before .before .before .before .before .before .before .before .before .before .before .before .before .before .before .before .before .before .before .before .before .before .before .before .before .before .before .before .before .before .before .before .before .before .before .before .digits .sum) (c .before .before .before .before .before .before .before .before .before .before .before .before .before .before .before .before .before .before .before .before .before .before .before .before .before .before .before .before .before .before .before .before .before .before .before .before .before .before .before .before .before .digits .inv .1) (sym (c .before .before .before .before .before .before .before .before .before .before .before .before .before .before .before .before .before .before .before .before .before .before .before .before .before .before .before .before .before .before .before .before .before .before .before .before .before .before .before .before .pair-at .ensures) ∙ c .before .before .before .before .before .before .before .before .before .before .before .before .before .before .before .before .before .before .before .before .before .before .before .before .before .before .before .before .before .before .before .before .before .before .before .before .before .before .enum-told .given .1) .0, c .before .before .before .before .before .before .before .before .before .before .before .before .before .before .before .before .before .before .before .before .before .before .before .before .before .before .before .before .before .before .before .before .before .before .before .before .before .before .before .before .before .before .before .before .before .pre)
 
--- src/reading.rt:121:9
 add-line : tie.Need-add-line Inv-digits μ-digits Inv-lines μ-lines
-add-line c = search needs
+add-line c = omega (arith, c .before .before .before .before .before .before .before .before .before .before .before .before .before .before .before .before .before .before .before .before .before .before .before .before .before .before .before .before .before .before .before .before .before .before .before .before .before .before .before .before .before .before .before .lines .inv .1 .counted, c .before .before .before .before .before .before .before .before .before .before .before .before .before .before .before .before .before .before .before .before .before .before .before .before .before .before .before .before .before .before .before .before .before .before .before .before .before .before .before .before .before .before .before .lines .inv .1 .within, c .before .before .before .before .before .before .before .before .before .before .before .before .before .before .before .before .before .before .before .before .before .before .before .before .before .before .before .before .before .before .before .before .before .before .before .before .before .before .before .before .before .before .before .before .before .pre)
 
--- src/reading.rt:77:5
 lines-less : tie.Need-lines-less Inv-digits μ-digits Inv-lines μ-lines
-lines-less c = search needs
+lines-less c = omega (arith, line-feed (c .before .before .before .before .before .before .before .before .before .before .before .before .before .before .before .before .before .before .before .before .before .before .before .before .before .before .before .before .before .before .before .before .before .before .before .before .before .before .before .before .before .before .before .before .before .args .text .now) (c .before .before .before .before .before .before .before .before .before .before .before .before .before .before .before .before .before .before .before .before .before .before .before .before .before .before .before .before .before .before .before .before .before .before .before .before .before .before .before .before .before .before .before .lines .at) (c .before .before .before .before .before .before .before .before .before .before .before .before .before .before .before .before .before .before .before .before .before .before .before .before .before .before .before .before .before .before .before .before .before .before .before .before .before .before .before .before .before .digits .at) (c .before .before .before .before .before .before .before .before .before .before .before .before .before .before .before .before .before .before .before .before .before .before .before .before .before .before .before .before .before .before .before .before .before .before .before .before .before .before .before .before .before .digits .bytes-read) (c .before .before .before .before .before .before .before .before .before .before .before .before .before .before .before .before .before .before .before .before .before .before .before .before .before .before .before .before .before .before .before .before .before .before .before .before .before .before .before .before .before .digits .bytes) (c .before .before .before .before .before .before .before .before .before .before .before .before .before .before .before .before .before .before .before .before .before .before .before .before .before .before .before .before .before .before .before .before .before .before .before .before .before .before .before .before .before .digits .sum) (c .before .before .before .before .before .before .before .before .before .before .before .before .before .before .before .before .before .before .before .before .before .before .before .before .before .before .before .before .before .before .before .before .before .before .before .before .before .before .before .before .before .digits .inv .1) (sym (c .before .before .before .before .before .before .before .before .before .before .before .before .before .before .before .before .before .before .before .before .before .before .before .before .before .before .before .before .before .before .before .before .before .before .before .before .before .before .before .before .pair-at .ensures) ∙ c .before .before .before .before .before .before .before .before .before .before .before .before .before .before .before .before .before .before .before .before .before .before .before .before .before .before .before .before .before .before .before .before .before .before .before .before .before .before .enum-told .given .1) .0, c .before .before .before .before .before .before .before .before .before .before .before .before .before .before .before .before .before .before .before .before .before .before .before .before .before .before .before .before .before .before .before .before .before .before .before .before .before .before .before .before .before .digits .inv .1 .passed)
 
--- src/reading.rt:77:5
 lines-again : tie.Need-lines-again Inv-digits μ-digits Inv-lines μ-lines
-lines-again c = search needs
+lines-again c = (c .before .before .before .before .before .before .before .before .before .before .before .before .before .before .before .before .before .before .before .before .before .before .before .before .before .before .if1 .left, subst₂ (λ (v : State) (t : Tables). AtLine (c .before .before .before .before .before .before .before .before .before .before .before .before .before .before .before .before .before .before .before .before .before .before .before .before .before .before .before .before .before .before .before .before .before .before .before .before .before .before .before .before .before .before .before .before .before .args .text .now) (c .before .before .before .before .before .before .before .before .before .before .before .before .before .before .before .before .before .before .before .before .before .before .before .before .before .before .before .before .before .before .before .before .before .before .before .before .before .before .before .before .before .digits .at + 1) (c .before .before .before .before .before .before .before .before .before .before .before .before .before .before .before .before .before .before .before .before .before .before .before .before .before .before .before .before .before .before .before .before .before .before .before .before .before .before .before .before .before .before .before .lines .line + 1) v t) (sym (c .after .ensures ∙ after-told (c .before .before .before .before .before .before .before .before .before .before .before .before .before .before .before .before .before .before .before .before .before .before .before .before .before .before .before .before .before .before .before .before .before .before .before .before .before .before .before .before .before .digits .bytes-read) (c .before .before .before .before .before .before .before .before .before .before .before .before .before .before .before .before .before .before .before .before .before .before .before .before .before .before .before .before .before .before .before .before .before .before .before .before .before .before .before .before .before .before .before .lines .s) (tablesFrom (c .before .before .before .before .before .before .before .before .before .before .before .before .before .before .before .before .before .before .before .before .before .before .before .before .before .before .before .before .before .before .before .before .before .before .before .before .before .before .before .before .before .before .before .lines .values) (c .before .before .before .before .before .before .before .before .before .before .before .before .before .before .before .before .before .before .before .before .before .before .before .before .before .before .before .before .before .before .before .before .before .before .before .before .before .before .before .before .before .before .before .lines .owners) (c .before .before .before .before .before .before .before .before .before .before .before .before .before .before .before .before .before .before .before .before .before .before .before .before .before .before .before .before .before .before .before .before .before .before .before .before .before .before .before .before .before .before .before .lines .starts) (c .before .before .before .before .before .before .before .before .before .before .before .before .before .before .before .before .before .before .before .before .before .before .before .before .before .before .before .before .before .before .before .before .before .before .before .before .before .before .before .before .before .before .before .lines .marks) (c .before .before .before .before .before .before .before .before .before .before .before .before .before .before .before .before .before .before .before .before .before .before .before .before .before .before .before .before .before .before .before .before .before .before .before .before .before .before .before .before .before .before .before .lines .firsts) (c .before .before .before .before .before .before .before .before .before .before .before .before .before .before .before .before .before .before .before .before .before .before .before .before .before .before .before .before .before .before .before .before .before .before .before .before .before .before .before .before .before .before .before .lines .counts) (c .before .before .before .before .before .before .before .before .before .before .before .before .before .before .before .before .before .before .before .before .before .before .before .before .before .before .before .before .before .before .before .before .before .before .before .before .before .before .before .before .before .before .before .lines .needies) (c .before .before .before .before .before .before .before .before .before .before .before .before .before .before .before .before .before .before .before .before .before .before .before .before .before .before .before .before .before .before .before .before .before .before .before .before .before .before .before .before .before .before .before .lines .targets) (c .before .before .before .before .before .before .before .before .before .before .before .before .before .before .before .before .before .before .before .before .before .before .before .before .before .before .before .before .before .before .before .before .before .before .before .before .before .before .before .before .before .before .before .lines .lows) (c .before .before .before .before .before .before .before .before .before .before .before .before .before .before .before .before .before .before .before .before .before .before .before .before .before .before .before .before .before .before .before .before .before .before .before .before .before .before .before .before .before .before .before .lines .highs)) (c .before .before .before .before .before .before .before .before .before .before .before .before .before .before .before .before .before .before .before .before .before .before .before .before .before .before .before .before .before .before .before .before .before .before .before .before .before .row .result) (c .before .before .before .before .before .before .before .before .before .before .before .before .before .before .before .before .before .before .before .before .before .before .before .before .before .before .before .before .before .before .before .before .before .before .before .before .fields-of .result) (c .before .before .before .before .before .before .before .before .before .before .before .before .before .before .before .before .before .before .before .before .before .before .before .before .before .before .before .before .before .before .before .before .last-of .result) (c .before .before .before .before .before .before .before .before .before .before .before .before .before .before .before .before .before .before .before .before .before .before .before .before .before .before .before .before .half-at .result) (record { row-is = c .before .before .before .before .before .before .before .before .before .before .before .before .before .before .before .before .before .before .before .before .before .before .before .before .before .before .before .before .before .before .before .before .before .before .before .before .before .row .ensures; fields-are = c .before .before .before .before .before .before .before .before .before .before .before .before .before .before .before .before .before .before .before .before .before .before .before .before .before .before .before .before .before .before .before .before .before .before .before .before .fields-of .ensures; last-is = c .before .before .before .before .before .before .before .before .before .before .before .before .before .before .before .before .before .before .before .before .before .before .before .before .before .before .before .before .before .before .before .before .last-of .ensures; count-is = c .before .before .before .before .before .before .before .before .before .before .before .before .before .before .before .before .before .before .before .before .before .before .before .before .before .before .before .before .half-at .ensures }))) (sym (tables-told (tablesFrom (c .before .before .before .before .before .before .before .before .before .before .before .before .before .before .before .before .before .before .before .before .before .before .before .before .before .before .before .before .before .before .before .before .before .before .before .before .before .before .before .before .before .before .before .lines .values) (c .before .before .before .before .before .before .before .before .before .before .before .before .before .before .before .before .before .before .before .before .before .before .before .before .before .before .before .before .before .before .before .before .before .before .before .before .before .before .before .before .before .before .before .lines .owners) (c .before .before .before .before .before .before .before .before .before .before .before .before .before .before .before .before .before .before .before .before .before .before .before .before .before .before .before .before .before .before .before .before .before .before .before .before .before .before .before .before .before .before .before .lines .starts) (c .before .before .before .before .before .before .before .before .before .before .before .before .before .before .before .before .before .before .before .before .before .before .before .before .before .before .before .before .before .before .before .before .before .before .before .before .before .before .before .before .before .before .before .lines .marks) (c .before .before .before .before .before .before .before .before .before .before .before .before .before .before .before .before .before .before .before .before .before .before .before .before .before .before .before .before .before .before .before .before .before .before .before .before .before .before .before .before .before .before .before .lines .firsts) (c .before .before .before .before .before .before .before .before .before .before .before .before .before .before .before .before .before .before .before .before .before .before .before .before .before .before .before .before .before .before .before .before .before .before .before .before .before .before .before .before .before .before .before .lines .counts) (c .before .before .before .before .before .before .before .before .before .before .before .before .before .before .before .before .before .before .before .before .before .before .before .before .before .before .before .before .before .before .before .before .before .before .before .before .before .before .before .before .before .before .before .lines .needies) (c .before .before .before .before .before .before .before .before .before .before .before .before .before .before .before .before .before .before .before .before .before .before .before .before .before .before .before .before .before .before .before .before .before .before .before .before .before .before .before .before .before .before .before .lines .targets) (c .before .before .before .before .before .before .before .before .before .before .before .before .before .before .before .before .before .before .before .before .before .before .before .before .before .before .before .before .before .before .before .before .before .before .before .before .before .before .before .before .before .before .before .lines .lows) (c .before .before .before .before .before .before .before .before .before .before .before .before .before .before .before .before .before .before .before .before .before .before .before .before .before .before .before .before .before .before .before .before .before .before .before .before .before .before .before .before .before .before .before .lines .highs)) (c .before .before .before .before .before .before .before .before .before .before .before .before .before .before .before .before .before .before .before .before .before .before .before .before .before .before .before .before .before .before .before .before .before .before .before .before .before .before .before .before .before .before .before .lines .s) (c .before .before .before .before .before .before .before .before .before .before .before .before .before .before .before .before .before .before .before .before .before .before .before .before .before .before .before .before .before .before .before .before .last-of .result) (c .before .before .before .before .before .before .before .before .before .before .before .before .before .before .before .before .before .before .before .before .before .before .before .before .before .before .before .before .half-at .result) (c .before .before .before .before .before .before .before .before .before .before .before .before .before .before .before .before .before .before .before .before .before .before .before .before .before .before .before .before .before .before .before .before .before .before .before .before .fields-of .result) (c .before .before .before .before .before .before .before .before .before .before .before .before .before .before .before .before .before .before .before .before .before .keep-version .ensures .0) (c .before .before .before .before .before .before .before .before .before .before .before .before .before .before .before .before .before .before .before .before .before .keep-version .ensures .1 .0) (c .before .before .before .before .before .before .before .before .before .before .before .before .before .before .before .before .before .before .before .before .before .keep-version .ensures .1 .1 .0) (c .before .before .before .before .before .before .before .before .before .before .before .before .before .before .before .before .before .before .before .before .before .keep-version .ensures .1 .1 .1) (c .before .before .before .before .before .before .before .before .before .before .before .before .before .before .keep-module .ensures .0) (c .before .before .before .before .before .before .before .before .before .before .before .before .before .before .keep-module .ensures .1) (c .before .before .before .before .before .before .keep-need .ensures .0) (c .before .before .before .before .before .before .keep-need .ensures .1 .0) (c .before .before .before .before .before .before .keep-need .ensures .1 .1 .0) (c .before .before .before .before .before .before .keep-need .ensures .1 .1 .1 .0) (c .before .before .before .before .before .before .keep-need .ensures .1 .1 .1 .1) ∙ kept-told (c .before .before .before .before .before .before .before .before .before .before .before .before .before .before .before .before .before .before .before .before .before .before .before .before .before .before .before .before .before .before .before .before .before .before .before .before .before .before .before .before .before .digits .bytes-read) (c .before .before .before .before .before .before .before .before .before .before .before .before .before .before .before .before .before .before .before .before .before .before .before .before .before .before .before .before .before .before .before .before .before .before .before .before .before .before .before .before .before .before .before .lines .s) (tablesFrom (c .before .before .before .before .before .before .before .before .before .before .before .before .before .before .before .before .before .before .before .before .before .before .before .before .before .before .before .before .before .before .before .before .before .before .before .before .before .before .before .before .before .before .before .lines .values) (c .before .before .before .before .before .before .before .before .before .before .before .before .before .before .before .before .before .before .before .before .before .before .before .before .before .before .before .before .before .before .before .before .before .before .before .before .before .before .before .before .before .before .before .lines .owners) (c .before .before .before .before .before .before .before .before .before .before .before .before .before .before .before .before .before .before .before .before .before .before .before .before .before .before .before .before .before .before .before .before .before .before .before .before .before .before .before .before .before .before .before .lines .starts) (c .before .before .before .before .before .before .before .before .before .before .before .before .before .before .before .before .before .before .before .before .before .before .before .before .before .before .before .before .before .before .before .before .before .before .before .before .before .before .before .before .before .before .before .lines .marks) (c .before .before .before .before .before .before .before .before .before .before .before .before .before .before .before .before .before .before .before .before .before .before .before .before .before .before .before .before .before .before .before .before .before .before .before .before .before .before .before .before .before .before .before .lines .firsts) (c .before .before .before .before .before .before .before .before .before .before .before .before .before .before .before .before .before .before .before .before .before .before .before .before .before .before .before .before .before .before .before .before .before .before .before .before .before .before .before .before .before .before .before .lines .counts) (c .before .before .before .before .before .before .before .before .before .before .before .before .before .before .before .before .before .before .before .before .before .before .before .before .before .before .before .before .before .before .before .before .before .before .before .before .before .before .before .before .before .before .before .lines .needies) (c .before .before .before .before .before .before .before .before .before .before .before .before .before .before .before .before .before .before .before .before .before .before .before .before .before .before .before .before .before .before .before .before .before .before .before .before .before .before .before .before .before .before .before .lines .targets) (c .before .before .before .before .before .before .before .before .before .before .before .before .before .before .before .before .before .before .before .before .before .before .before .before .before .before .before .before .before .before .before .before .before .before .before .before .before .before .before .before .before .before .before .lines .lows) (c .before .before .before .before .before .before .before .before .before .before .before .before .before .before .before .before .before .before .before .before .before .before .before .before .before .before .before .before .before .before .before .before .before .before .before .before .before .before .before .before .before .before .before .lines .highs)) (c .before .before .before .before .before .before .before .before .before .before .before .before .before .before .before .before .before .before .before .before .before .before .before .before .before .before .before .before .before .before .before .before .before .before .before .before .before .row .result) (c .before .before .before .before .before .before .before .before .before .before .before .before .before .before .before .before .before .before .before .before .before .before .before .before .before .before .before .before .before .before .before .before .before .before .before .before .fields-of .result) (c .before .before .before .before .before .before .before .before .before .before .before .before .before .before .before .before .before .before .before .before .before .before .before .before .before .before .before .before .before .before .before .before .last-of .result) (c .before .before .before .before .before .before .before .before .before .before .before .before .before .before .before .before .before .before .before .before .before .before .before .before .before .before .before .before .half-at .result) (record { row-is = c .before .before .before .before .before .before .before .before .before .before .before .before .before .before .before .before .before .before .before .before .before .before .before .before .before .before .before .before .before .before .before .before .before .before .before .before .before .row .ensures; fields-are = c .before .before .before .before .before .before .before .before .before .before .before .before .before .before .before .before .before .before .before .before .before .before .before .before .before .before .before .before .before .before .before .before .before .before .before .before .fields-of .ensures; last-is = c .before .before .before .before .before .before .before .before .before .before .before .before .before .before .before .before .before .before .before .before .before .before .before .before .before .before .before .before .before .before .before .before .last-of .ensures; count-is = c .before .before .before .before .before .before .before .before .before .before .before .before .before .before .before .before .before .before .before .before .before .before .before .before .before .before .before .before .half-at .ensures }))) (line-kept (c .before .before .before .before .before .before .before .before .before .before .before .before .before .before .before .before .before .before .before .before .before .before .before .before .before .before .before .before .before .before .before .before .before .before .before .before .before .before .before .before .before .before .before .before .before .args .text .now) (c .before .before .before .before .before .before .before .before .before .before .before .before .before .before .before .before .before .before .before .before .before .before .before .before .before .before .before .before .before .before .before .before .before .before .before .before .before .before .before .before .before .before .before .lines .at) (c .before .before .before .before .before .before .before .before .before .before .before .before .before .before .before .before .before .before .before .before .before .before .before .before .before .before .before .before .before .before .before .before .before .before .before .before .before .before .before .before .before .before .before .lines .line) (c .before .before .before .before .before .before .before .before .before .before .before .before .before .before .before .before .before .before .before .before .before .before .before .before .before .before .before .before .before .before .before .before .before .before .before .before .before .before .before .before .before .before .before .lines .s) (tablesFrom (c .before .before .before .before .before .before .before .before .before .before .before .before .before .before .before .before .before .before .before .before .before .before .before .before .before .before .before .before .before .before .before .before .before .before .before .before .before .before .before .before .before .before .before .lines .values) (c .before .before .before .before .before .before .before .before .before .before .before .before .before .before .before .before .before .before .before .before .before .before .before .before .before .before .before .before .before .before .before .before .before .before .before .before .before .before .before .before .before .before .before .lines .owners) (c .before .before .before .before .before .before .before .before .before .before .before .before .before .before .before .before .before .before .before .before .before .before .before .before .before .before .before .before .before .before .before .before .before .before .before .before .before .before .before .before .before .before .before .lines .starts) (c .before .before .before .before .before .before .before .before .before .before .before .before .before .before .before .before .before .before .before .before .before .before .before .before .before .before .before .before .before .before .before .before .before .before .before .before .before .before .before .before .before .before .before .lines .marks) (c .before .before .before .before .before .before .before .before .before .before .before .before .before .before .before .before .before .before .before .before .before .before .before .before .before .before .before .before .before .before .before .before .before .before .before .before .before .before .before .before .before .before .before .lines .firsts) (c .before .before .before .before .before .before .before .before .before .before .before .before .before .before .before .before .before .before .before .before .before .before .before .before .before .before .before .before .before .before .before .before .before .before .before .before .before .before .before .before .before .before .before .lines .counts) (c .before .before .before .before .before .before .before .before .before .before .before .before .before .before .before .before .before .before .before .before .before .before .before .before .before .before .before .before .before .before .before .before .before .before .before .before .before .before .before .before .before .before .before .lines .needies) (c .before .before .before .before .before .before .before .before .before .before .before .before .before .before .before .before .before .before .before .before .before .before .before .before .before .before .before .before .before .before .before .before .before .before .before .before .before .before .before .before .before .before .before .lines .targets) (c .before .before .before .before .before .before .before .before .before .before .before .before .before .before .before .before .before .before .before .before .before .before .before .before .before .before .before .before .before .before .before .before .before .before .before .before .before .before .before .before .before .before .before .lines .lows) (c .before .before .before .before .before .before .before .before .before .before .before .before .before .before .before .before .before .before .before .before .before .before .before .before .before .before .before .before .before .before .before .before .before .before .before .before .before .before .before .before .before .before .before .lines .highs)) (c .before .before .before .before .before .before .before .before .before .before .before .before .before .before .before .before .before .before .before .before .before .before .before .before .before .before .before .before .before .before .before .before .before .before .before .before .before .before .before .before .before .before .before .lines .inv .1) (c .before .before .before .before .before .before .before .before .before .before .before .before .before .before .before .before .before .before .before .before .before .before .before .before .before .before .before .before .before .before .before .before .before .before .before .before .before .before .before .before .before .digits .at) (c .before .before .before .before .before .before .before .before .before .before .before .before .before .before .before .before .before .before .before .before .before .before .before .before .before .before .before .before .before .before .before .before .before .before .before .before .before .before .before .before .before .digits .bytes-read) (c .before .before .before .before .before .before .before .before .before .before .before .before .before .before .before .before .before .before .before .before .before .before .before .before .before .before .before .before .before .before .before .before .before .before .before .before .before .before .before .before .before .digits .bytes) (c .before .before .before .before .before .before .before .before .before .before .before .before .before .before .before .before .before .before .before .before .before .before .before .before .before .before .before .before .before .before .before .before .before .before .before .before .before .before .before .before .before .digits .sum) (c .before .before .before .before .before .before .before .before .before .before .before .before .before .before .before .before .before .before .before .before .before .before .before .before .before .before .before .before .before .before .before .before .before .before .before .before .before .before .before .before .before .digits .inv .1) (sym (c .before .before .before .before .before .before .before .before .before .before .before .before .before .before .before .before .before .before .before .before .before .before .before .before .before .before .before .before .before .before .before .before .before .before .before .before .before .before .before .before .pair-at .ensures) ∙ c .before .before .before .before .before .before .before .before .before .before .before .before .before .before .before .before .before .before .before .before .before .before .before .before .before .before .before .before .before .before .before .before .before .before .before .before .before .before .enum-told .given .1) (sym (c .before .before .before .before .before .before .before .before .before .before .before .before .before .before .before .before .before .before .before .before .before .before .before .before .before .before .before .line-fault .ensures ∙ found-told (c .before .before .before .before .before .before .before .before .before .before .before .before .before .before .before .before .before .before .before .before .before .before .before .before .before .before .before .before .before .before .before .before .before .before .before .before .before .before .before .before .before .digits .bytes-read) (c .before .before .before .before .before .before .before .before .before .before .before .before .before .before .before .before .before .before .before .before .before .before .before .before .before .before .before .before .before .before .before .before .before .before .before .before .before .before .before .before .before .before .before .lines .s) (tablesFrom (c .before .before .before .before .before .before .before .before .before .before .before .before .before .before .before .before .before .before .before .before .before .before .before .before .before .before .before .before .before .before .before .before .before .before .before .before .before .before .before .before .before .before .before .lines .values) (c .before .before .before .before .before .before .before .before .before .before .before .before .before .before .before .before .before .before .before .before .before .before .before .before .before .before .before .before .before .before .before .before .before .before .before .before .before .before .before .before .before .before .before .lines .owners) (c .before .before .before .before .before .before .before .before .before .before .before .before .before .before .before .before .before .before .before .before .before .before .before .before .before .before .before .before .before .before .before .before .before .before .before .before .before .before .before .before .before .before .before .lines .starts) (c .before .before .before .before .before .before .before .before .before .before .before .before .before .before .before .before .before .before .before .before .before .before .before .before .before .before .before .before .before .before .before .before .before .before .before .before .before .before .before .before .before .before .before .lines .marks) (c .before .before .before .before .before .before .before .before .before .before .before .before .before .before .before .before .before .before .before .before .before .before .before .before .before .before .before .before .before .before .before .before .before .before .before .before .before .before .before .before .before .before .before .lines .firsts) (c .before .before .before .before .before .before .before .before .before .before .before .before .before .before .before .before .before .before .before .before .before .before .before .before .before .before .before .before .before .before .before .before .before .before .before .before .before .before .before .before .before .before .before .lines .counts) (c .before .before .before .before .before .before .before .before .before .before .before .before .before .before .before .before .before .before .before .before .before .before .before .before .before .before .before .before .before .before .before .before .before .before .before .before .before .before .before .before .before .before .before .lines .needies) (c .before .before .before .before .before .before .before .before .before .before .before .before .before .before .before .before .before .before .before .before .before .before .before .before .before .before .before .before .before .before .before .before .before .before .before .before .before .before .before .before .before .before .before .lines .targets) (c .before .before .before .before .before .before .before .before .before .before .before .before .before .before .before .before .before .before .before .before .before .before .before .before .before .before .before .before .before .before .before .before .before .before .before .before .before .before .before .before .before .before .before .lines .lows) (c .before .before .before .before .before .before .before .before .before .before .before .before .before .before .before .before .before .before .before .before .before .before .before .before .before .before .before .before .before .before .before .before .before .before .before .before .before .before .before .before .before .before .before .lines .highs)) (c .before .before .before .before .before .before .before .before .before .before .before .before .before .before .before .before .before .before .before .before .before .before .before .before .before .before .before .before .before .before .before .before .before .before .before .before .before .row .result) (c .before .before .before .before .before .before .before .before .before .before .before .before .before .before .before .before .before .before .before .before .before .before .before .before .before .before .before .before .before .before .before .before .before .before .before .before .fields-of .result) (c .before .before .before .before .before .before .before .before .before .before .before .before .before .before .before .before .before .before .before .before .before .before .before .before .before .before .before .before .before .before .before .before .last-of .result) (c .before .before .before .before .before .before .before .before .before .before .before .before .before .before .before .before .before .before .before .before .before .before .before .before .before .before .before .before .half-at .result) (record { row-is = c .before .before .before .before .before .before .before .before .before .before .before .before .before .before .before .before .before .before .before .before .before .before .before .before .before .before .before .before .before .before .before .before .before .before .before .before .before .row .ensures; fields-are = c .before .before .before .before .before .before .before .before .before .before .before .before .before .before .before .before .before .before .before .before .before .before .before .before .before .before .before .before .before .before .before .before .before .before .before .before .fields-of .ensures; last-is = c .before .before .before .before .before .before .before .before .before .before .before .before .before .before .before .before .before .before .before .before .before .before .before .before .before .before .before .before .before .before .before .before .last-of .ensures; count-is = c .before .before .before .before .before .before .before .before .before .before .before .before .before .before .before .before .before .before .before .before .before .before .before .before .before .before .before .before .half-at .ensures }) (c .before .before .before .before .before .before .before .before .before .before .before .before .before .before .before .before .before .before .before .before .before .before .before .before .before .before .before .before .before .before .before .before .before .before .before .before .before .before .before .before .before .digits .bytes) (c .before .before .before .before .before .before .before .before .before .before .before .before .before .before .before .before .before .before .before .before .before .before .before .before .before .before .before .before .before .before .before .before .before .before .before .before .before .before .before .before .before .digits .sum)) ∙ c .before .before .before .before .before .before .before .before .before .before .before .before .before .before .before .before .before .before .before .before .before .before .before .before .before .before .if1 .left)))
 
--- src/reading.rt:54:1
 returns : tie.Need-returns Inv-digits μ-digits Inv-lines μ-lines
-returns c = search needs
+returns c = subst (λ (n : ℕ). LinesRead (c .before .before .before .args .text .now) (record { number = n; line = c .before .lines .line; state = c .before .lines .s; tables = (tablesFrom (c .before .lines .values) (c .before .lines .owners) (c .before .lines .starts) (c .before .lines .marks) (c .before .lines .firsts) (c .before .lines .counts) (c .before .lines .needies) (c .before .lines .targets) (c .before .lines .lows) (c .before .lines .highs)) })) (sym (c .before .lines .inv .0)) (end-stops (c .before .before .before .args .text .now) (c .before .lines .at) (c .before .lines .line) (c .before .lines .s) (tablesFrom (c .before .lines .values) (c .before .lines .owners) (c .before .lines .starts) (c .before .lines .marks) (c .before .lines .firsts) (c .before .lines .counts) (c .before .lines .needies) (c .before .lines .targets) (c .before .lines .lows) (c .before .lines .highs)) (c .before .lines .inv .1) (c .lines-test .left))
 
--- src/reading.rt:54:1
 returns-2 : tie.Need-returns-2 Inv-digits μ-digits Inv-lines μ-lines
-returns-2 c = search needs
+returns-2 c = wrong-stops (c .before .before .before .before .before .before .before .args .text .now) (c .before .before .before .before .before .lines .at) (c .before .before .before .before .before .lines .line) (c .before .before .before .before .before .lines .s) (tablesFrom (c .before .before .before .before .before .lines .values) (c .before .before .before .before .before .lines .owners) (c .before .before .before .before .before .lines .starts) (c .before .before .before .before .before .lines .marks) (c .before .before .before .before .before .lines .firsts) (c .before .before .before .before .before .lines .counts) (c .before .before .before .before .before .lines .needies) (c .before .before .before .before .before .lines .targets) (c .before .before .before .before .before .lines .lows) (c .before .before .before .before .before .lines .highs)) (c .before .before .before .before .before .lines .inv .1) (c .before .before .before .digits .at) (c .before .before .before .digits .bytes-read) (c .before .before .before .digits .bytes) (c .before .before .before .digits .sum) (c .before .before .before .digits .inv .1) (sym (c .before .before .pair-at .ensures) ∙ c .enum-told2 .given .1)
 
--- src/reading.rt:54:1
 returns-3 : tie.Need-returns-3 Inv-digits μ-digits Inv-lines μ-lines
-returns-3 c = search needs
+returns-3 c = let same = (c .before .line-fault .ensures ∙ found-told (c .before .before .before .before .before .before .before .before .before .before .before .before .before .before .before .digits .bytes-read) (c .before .before .before .before .before .before .before .before .before .before .before .before .before .before .before .before .before .lines .s) (tablesFrom (c .before .before .before .before .before .before .before .before .before .before .before .before .before .before .before .before .before .lines .values) (c .before .before .before .before .before .before .before .before .before .before .before .before .before .before .before .before .before .lines .owners) (c .before .before .before .before .before .before .before .before .before .before .before .before .before .before .before .before .before .lines .starts) (c .before .before .before .before .before .before .before .before .before .before .before .before .before .before .before .before .before .lines .marks) (c .before .before .before .before .before .before .before .before .before .before .before .before .before .before .before .before .before .lines .firsts) (c .before .before .before .before .before .before .before .before .before .before .before .before .before .before .before .before .before .lines .counts) (c .before .before .before .before .before .before .before .before .before .before .before .before .before .before .before .before .before .lines .needies) (c .before .before .before .before .before .before .before .before .before .before .before .before .before .before .before .before .before .lines .targets) (c .before .before .before .before .before .before .before .before .before .before .before .before .before .before .before .before .before .lines .lows) (c .before .before .before .before .before .before .before .before .before .before .before .before .before .before .before .before .before .lines .highs)) (c .before .before .before .before .before .before .before .before .before .before .before .row .result) (c .before .before .before .before .before .before .before .before .before .before .fields-of .result) (c .before .before .before .before .before .before .last-of .result) (c .before .before .half-at .result) (record { row-is = c .before .before .before .before .before .before .before .before .before .before .before .row .ensures; fields-are = c .before .before .before .before .before .before .before .before .before .before .fields-of .ensures; last-is = c .before .before .before .before .before .before .last-of .ensures; count-is = c .before .before .half-at .ensures }) (c .before .before .before .before .before .before .before .before .before .before .before .before .before .before .before .digits .bytes) (c .before .before .before .before .before .before .before .before .before .before .before .before .before .before .before .digits .sum)) in subst (λ (n : ℕ). LinesRead (c .before .before .before .before .before .before .before .before .before .before .before .before .before .before .before .before .before .before .before .args .text .now) (record { number = n; line = c .before .before .before .before .before .before .before .before .before .before .before .before .before .before .before .before .before .lines .line; state = c .before .before .before .before .before .before .before .before .before .before .before .before .before .before .before .before .before .lines .s; tables = (tablesFrom (c .before .before .before .before .before .before .before .before .before .before .before .before .before .before .before .before .before .lines .values) (c .before .before .before .before .before .before .before .before .before .before .before .before .before .before .before .before .before .lines .owners) (c .before .before .before .before .before .before .before .before .before .before .before .before .before .before .before .before .before .lines .starts) (c .before .before .before .before .before .before .before .before .before .before .before .before .before .before .before .before .before .lines .marks) (c .before .before .before .before .before .before .before .before .before .before .before .before .before .before .before .before .before .lines .firsts) (c .before .before .before .before .before .before .before .before .before .before .before .before .before .before .before .before .before .lines .counts) (c .before .before .before .before .before .before .before .before .before .before .before .before .before .before .before .before .before .lines .needies) (c .before .before .before .before .before .before .before .before .before .before .before .before .before .before .before .before .before .lines .targets) (c .before .before .before .before .before .before .before .before .before .before .before .before .before .before .before .before .before .lines .lows) (c .before .before .before .before .before .before .before .before .before .before .before .before .before .before .before .before .before .lines .highs)) })) (sym same) (line-stops (c .before .before .before .before .before .before .before .before .before .before .before .before .before .before .before .before .before .before .before .args .text .now) (c .before .before .before .before .before .before .before .before .before .before .before .before .before .before .before .before .before .lines .at) (c .before .before .before .before .before .before .before .before .before .before .before .before .before .before .before .before .before .lines .line) (c .before .before .before .before .before .before .before .before .before .before .before .before .before .before .before .before .before .lines .s) (tablesFrom (c .before .before .before .before .before .before .before .before .before .before .before .before .before .before .before .before .before .lines .values) (c .before .before .before .before .before .before .before .before .before .before .before .before .before .before .before .before .before .lines .owners) (c .before .before .before .before .before .before .before .before .before .before .before .before .before .before .before .before .before .lines .starts) (c .before .before .before .before .before .before .before .before .before .before .before .before .before .before .before .before .before .lines .marks) (c .before .before .before .before .before .before .before .before .before .before .before .before .before .before .before .before .before .lines .firsts) (c .before .before .before .before .before .before .before .before .before .before .before .before .before .before .before .before .before .lines .counts) (c .before .before .before .before .before .before .before .before .before .before .before .before .before .before .before .before .before .lines .needies) (c .before .before .before .before .before .before .before .before .before .before .before .before .before .before .before .before .before .lines .targets) (c .before .before .before .before .before .before .before .before .before .before .before .before .before .before .before .before .before .lines .lows) (c .before .before .before .before .before .before .before .before .before .before .before .before .before .before .before .before .before .lines .highs)) (c .before .before .before .before .before .before .before .before .before .before .before .before .before .before .before .before .before .lines .inv .1) (c .before .before .before .before .before .before .before .before .before .before .before .before .before .before .before .digits .at) (c .before .before .before .before .before .before .before .before .before .before .before .before .before .before .before .digits .bytes-read) (c .before .before .before .before .before .before .before .before .before .before .before .before .before .before .before .digits .bytes) (c .before .before .before .before .before .before .before .before .before .before .before .before .before .before .before .digits .sum) (c .before .before .before .before .before .before .before .before .before .before .before .before .before .before .before .digits .inv .1) (sym (c .before .before .before .before .before .before .before .before .before .before .before .before .before .before .pair-at .ensures) ∙ c .before .before .before .before .before .before .before .before .before .before .before .before .enum-told .given .1) (λ e. c .if1 .taken (same ∙ e)))
 
 pub read-lines-spec : {M : Type 1} → statement M
 read-lines-spec =
