@@ -24,6 +24,7 @@ use Rattle.catalogue.specs.declared.frame.State.{State}
 use Rattle.catalogue.specs.declared.frame.Last.{Last}
 use Rattle.catalogue.specs.declared.tables.Tables.{Tables}
 use Rattle.catalogue.specs.Frame.{moduleNo, version, stateOf, lastOf, fieldsAt, checks, versionFault, needFault, frameFault}
+use Rattle.catalogue.specs.Reading.{noTables}
 use Rattle.catalogue.specs.Tables.{keptAt, isVersion, isNeed, kept, lastIn, Holds}
 use Rattle.catalogue.proofs.Faults.{Known, a-head, a-version, a-need, a-caret, an-end, known-kind, fieldsIn, fault-law}
 use Rattle.catalogue.proofs.Faults.{head-fields, version-fields, need-fields, caret-fields, end-fields}
@@ -141,28 +142,16 @@ pub record Tidy (t : Tables) (c : Catalogue) : Type 0 where
   pub marks-fit : (i : ℕ) → getD (t .marks) i 0 ≤ 17
 
 -- how many versions a module has, and needs a version
+pub count-holds : {t : Tables} {c : Catalogue} → Holds t c → (m : ℕ) → getD (t .counts) m 0 ≡ length (placesOf c m)
+count-holds {t} {c} h m = sym (ap length (h .places m) ∙ length-upFrom _ _)
+
 pub count-law : {t : Tables} {c : Catalogue} → Tidy t c → (m : ℕ) → getD (t .counts) m 0 ≡ length (placesOf c m)
-count-law {t} {c} h m = sym (ap length (h .holds .places m) ∙ length-upFrom _ _)
+count-law h m = count-holds (h .holds) m
 
 pub mark-law : {t : Tables} {c : Catalogue} → Tidy t c → (i : ℕ) → getD (t .marks) i 0 - 1 ≡ length (needsOf c i)
 mark-law {t} {c} h i = sym (ap length (h .holds .needs i) ∙ length-upFrom _ _)
 
 -- AT THE START
-abbrev pub noTables : Tables
-noTables =
-    record {
-      values = replicate 512 0;
-      owners = replicate 512 0;
-      starts = replicate 512 0;
-      marks = replicate 512 0;
-      firsts = replicate 32 0;
-      counts = replicate 32 0;
-      needies = replicate 1024 0;
-      targets = replicate 1024 0;
-      lows = replicate 1024 0;
-      highs = replicate 1024 0;
-    }
-
 all-zero : (n i : ℕ) → getD {A = ℕ} (replicate n 0) i 0 ≡ 0
 all-zero zero i = refl
 all-zero (suc n) zero = refl

@@ -4,3 +4,4 @@ pub mod Faults
 pub mod Judged
 pub mod Kept
 pub mod Steps
+pub mod Finished

@@ -28,8 +28,8 @@ use Rattle.catalogue.specs.declared.tables.Tables.{Tables}
 use Rattle.catalogue.specs.declared.reading.Lines.{Lines}
 use Rattle.catalogue.specs.Frame.{stateOf, lastOf, fieldsAt, after}
 use Rattle.catalogue.specs.Tables.{keptAt, isVersion, isNeed, Holds, kept, lastIn}
-use Rattle.catalogue.specs.Reading.{lineFaultOf, start, reader, reached, LinesRead}
-use Rattle.catalogue.proofs.Kept.{Tidy, Reads, noTables, reads-start, reads-step, count-law, last-law}
+use Rattle.catalogue.specs.Reading.{lineFaultOf, start, reader, reached, LinesRead, noTables}
+use Rattle.catalogue.proofs.Kept.{Tidy, Reads, reads-start, reads-step, count-law, last-law}
 use Rattle.catalogue.proofs.Judged.{known, bytes-small, fields-same, line-judged}
 use Rattle.catalogue.proofs.Faults.{fieldsIn, after-law}
 

@@ -2,17 +2,19 @@
 use mathlib.Core.Path.{_≡_}
 use mathlib.Core.Bool.{Bool, cond}
 use mathlib.Core.List.{List, [], _∷_}
-use Prim.Native.Nat.{ℕ, _*_}
-use lib.Dec.{leb, eqb}
+use Prim.Native.Nat.{ℕ, _*_, _-_}
+use lib.Dec.{leb, ltb, eqb}
+use lib.ListN.{length, getD, replicate}
 use Rattle.rules.specs.Lines.{fault, orElse, unless, linesOf}
 use Rattle.rules.specs.Frames.{Reader, bad, readFrom}
-use Rattle.rules.specs.Catalogue.{Reading, reading, noCatalogue, limits, catalogueReader}
+use Rattle.rules.specs.Catalogue.{Reading, reading, noCatalogue, limits, catalogueReader, textFault}
 use Rattle.frames.specs.Reached.{reachedFrom}
 use Rattle.frames.specs.declared.kinds.Kind.{Kind}
 use Rattle.catalogue.specs.declared.frame.Fields.{Fields}
 use Rattle.catalogue.specs.declared.frame.State.{State}
 use Rattle.catalogue.specs.declared.frame.Last.{Last}
 use Rattle.catalogue.specs.declared.reading.Lines.{Lines}
+use Rattle.catalogue.specs.declared.tables.Tables.{Tables}
 use Rattle.catalogue.specs.Frame.{stateOf, frameFault}
 use Rattle.catalogue.specs.Tables.{Holds}
 
@@ -36,3 +38,44 @@ pub record LinesRead (t : List ℕ) (r : Lines) : Type 0 where
   pub tables : Holds (r .tables) (reached t .sofar)
   pub outcome :
       readFrom reader 1 start (linesOf t) ≡ cond (eqb (r .number) 0) (readFrom reader (r .line) (reached t) []) (bad (fault (r .number) (r .line)))
+
+-- the same reading, with another fault told
+abbrev pub withFault : Lines → (number line : ℕ) → Lines
+withFault r n i = record { number = n; line = i; state = r .state; tables = r .tables }
+
+-- when every line is good: 5 where there is no end, 8 where the root hasn't exactly one version
+unfoldable pub finished : Lines → Lines
+finished r =
+    cond (eqb (r .number) 0)
+    (cond (eqb (r .state .stands) 2)
+    (cond (eqb (getD (r .tables .counts) 0 0) 1) (withFault r 0 0) (withFault r 8 (r .line - 1)))
+    (withFault r 5 (r .line)))
+    r
+
+abbrev pub noTables : Tables
+noTables =
+    record {
+      values = replicate 512 0;
+      owners = replicate 512 0;
+      starts = replicate 512 0;
+      marks = replicate 512 0;
+      firsts = replicate 32 0;
+      counts = replicate 32 0;
+      needies = replicate 1024 0;
+      targets = replicate 1024 0;
+      lows = replicate 1024 0;
+      highs = replicate 1024 0;
+    }
+
+abbrev pub nothingRead : (number : ℕ) → Lines
+nothingRead n = record { number = n; line = 0; state = stateOf start; tables = noTables }
+
+-- the reading of a text up to its first faulty line; a text that is too long is not read
+abbrev pub reachedIn : (text : List ℕ) → Reading
+reachedIn t = cond (ltb (limits .bytes) (length t)) start (reached t)
+
+-- what is owed of a text: its fault as the rules say, and tables that hold what was read before it
+pub record CatalogueRead (t : List ℕ) (r : Lines) : Type 0 where
+  pub fault-is : fault (r .number) (r .line) ≡ textFault limits t
+  pub state : r .state ≡ stateOf (reachedIn t)
+  pub tables : Holds (r .tables) (reachedIn t .sofar)

@@ -1,11 +1,12 @@
 // A catalogue's text read line by line, as far as the first faulty line.
 ghost use mathlib.Core.Path.{_≡_};
-ghost use Prim.Native.Nat.{_≤_};
+ghost use Prim.Native.Nat.{_-_, _≤_};
 ghost use lib.ListN.{length};
-ghost use Rattle.catalogue.specs.Reading.{LinesRead, lineFaultOf};
+ghost use Rattle.catalogue.specs.Reading.{LinesRead, lineFaultOf, withFault, finished, nothingRead, CatalogueRead};
 use crate::access;
 use crate::frame;
 use crate::frame::State;
+use crate::limits::BYTES;
 use crate::limits::MODULES;
 use crate::limits::NEEDS;
 use crate::limits::VERSIONS;
@@ -139,4 +140,83 @@ pub fn read_lines(text: &[u8]) -> Lines
         state: s,
         tables,
     }
+}
+
+// The line before, for a count of at least one.
+fn line_before(line: u32) -> u32
+    ensures { λ r. ⌜ r ≡ line - 1 ⌝ }
+{
+    if line == 0 {
+        return 0;
+    }
+    line - 1
+}
+
+// The same reading, with another fault told.
+fn with_fault(l: Lines, number: u8, line: u32) -> Lines
+    ensures { λ r. ⌜ r ≡ withFault l number line ⌝ }
+{
+    let mut told = l;
+    told.number = number;
+    told.line = line;
+    told
+}
+
+// When every line is good: 5 where there is no end, and 8 where the root hasn't exactly one version.
+fn finish(l: Lines) -> Lines
+    ensures { λ r. ⌜ r ≡ finished l ⌝ }
+{
+    if l.number != 0 {
+        return l;
+    }
+    let s = l.state;
+    if s.stands != 2 {
+        return with_fault(l, 5, l.line);
+    }
+    let t = l.tables;
+    let roots = access::half_at(&t.counts, 0);
+    if roots != 1 {
+        return with_fault(l, 8, line_before(l.line));
+    }
+    with_fault(l, 0, 0)
+}
+
+// Tables that hold nothing, and a fault.
+fn nothing_read(number: u8) -> Lines
+    ensures { λ r. ⌜ r ≡ nothingRead number ⌝ }
+{
+    let tables = Tables {
+        values: [0u32; VERSIONS as usize],
+        owners: [0u16; VERSIONS as usize],
+        starts: [0u16; VERSIONS as usize],
+        marks: [UNUSED; VERSIONS as usize],
+        firsts: [0u16; MODULES as usize],
+        counts: [0u16; MODULES as usize],
+        needies: [0u16; NEEDS as usize],
+        targets: [0u16; NEEDS as usize],
+        lows: [0u32; NEEDS as usize],
+        highs: [0u32; NEEDS as usize],
+    };
+    let s = State {
+        stands: 0,
+        modules: 0,
+        versions: 0,
+        needs: 0,
+    };
+    Lines {
+        number: number,
+        line: 0,
+        state: s,
+        tables: tables,
+    }
+}
+
+// A catalogue's text read whole: the number and line of its refusal, or 0 and 0, and the tables of what was read.
+pub fn read(text: &[u8]) -> Lines
+    ensures { λ r. ⌜ CatalogueRead (now (text .entry)) r ⌝ }
+{
+    if BYTES < text.len() {
+        return nothing_read(1);
+    }
+    finish(read_lines(text))
 }
