@@ -12,6 +12,8 @@ use Rattle.catalogue.specs.declared.frame.Fields.{Fields}
 use Rattle.catalogue.specs.declared.frame.State.{State}
 use Rattle.catalogue.specs.declared.frame.Last.{Last}
 use Rattle.catalogue.specs.declared.tables.Tables.{Tables}
+use Rattle.catalogue.specs.declared.lookup.Need.{Need}
+use Rattle.rules.specs.Catalogue as Rules
 
 -- a list with a number put in at an index, if it is wanted
 abbrev pub keptAt : (wanted : Bool) → (at x : ℕ) → List ℕ → List ℕ
@@ -61,3 +63,9 @@ pub record Holds (t : Tables) (c : Catalogue) : Type 0 where
   pub targets : (k : ℕ) → getD (t .targets) k 0 ≡ needAt c k .target
   pub lows : (k : ℕ) → getD (t .lows) k 0 ≡ needAt c k .low
   pub highs : (k : ℕ) → getD (t .highs) k 0 ≡ needAt c k .high
+
+-- a need as the code has it
+pub record NeedTold (n : Rules.Need) (r : Need) : Type 0 where
+  pub target : r .target .0 ≡ n .target
+  pub low : r .low .0 ≡ n .low
+  pub high : r .high .0 ≡ n .high

@@ -2,5 +2,6 @@
 pub mod access;
 pub mod frame;
 pub mod limits;
+pub mod lookup;
 pub mod reading;
 pub mod tables;

@@ -16,18 +16,32 @@ add-t5 c = search needs
 
 returns-2 : tie.Need-returns-2
 unfolding after
-returns-2 c = rw (ne-eqb (c .before .before .before .before .before .before .args .f .kind) 1 (c .before .before .before .if1 .left), eq-eqb (c .before .before .before .before .before .before .args .f .kind) 2 (c .before .if2 .taken))
+returns-2 c =
+    let given = c .before .before .before .before .before .before .args in
+    rw (ne-eqb (given .f .kind) 1 (c .before .before .before .if1 .left), eq-eqb (given .f .kind) 2 (c .before .if2 .taken))
 
 add-t8 : tie.Need-add-t8
 add-t8 c = search needs
 
 returns-3 : tie.Need-returns-3
 unfolding after
-returns-3 c = rw (ne-eqb (c .before .before .before .before .before .before .before .before .before .args .f .kind) 1 (c .before .before .before .before .before .before .if1 .left), ne-eqb (c .before .before .before .before .before .before .before .before .before .args .f .kind) 2 (c .before .before .before .before .if2 .left), c .before .if3 .taken)
+returns-3 c =
+    let given = c .before .before .before .before .before .before .before .before .before .args in
+    rw (
+      ne-eqb (given .f .kind) 1 (c .before .before .before .before .before .before .if1 .left),
+      ne-eqb (given .f .kind) 2 (c .before .before .before .before .if2 .left),
+      c .before .if3 .taken,
+    )
 
 returns-4 : tie.Need-returns-4
 unfolding after
-returns-4 c = rw (ne-eqb (c .before .before .before .before .before .before .before .before .args .f .kind) 1 (c .before .before .before .before .before .if1 .left), ne-eqb (c .before .before .before .before .before .before .before .before .args .f .kind) 2 (c .before .before .before .if2 .left), c .if3 .left)
+returns-4 c =
+    let given = c .before .before .before .before .before .before .before .before .args in
+    rw (
+      ne-eqb (given .f .kind) 1 (c .before .before .before .before .before .if1 .left),
+      ne-eqb (given .f .kind) 2 (c .before .before .before .if2 .left),
+      c .if3 .left,
+    )
 
 pub after-spec : {M : Type 1} → statement M
 after-spec = tie.close (tie.spec returns add-t5 returns-2 add-t8 returns-3 returns-4)

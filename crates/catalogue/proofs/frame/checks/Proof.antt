@@ -15,12 +15,14 @@ returns-2 c = rw (not-false (c .before .before .args .order) (c .before .if1 .le
 returns-3 : tie.Need-returns-3
 unfolding checks
 returns-3 c =
-    rw (not-false (c .before .before .before .args .order) (c .before .before .if1 .left), not-false (c .before .before .before .args .content) (c .before .if2 .left), not-true (c .before .before .before .args .room) (c .if3 .taken))
+    let given = c .before .before .before .args in
+    rw (not-false (given .order) (c .before .before .if1 .left), not-false (given .content) (c .before .if2 .left), not-true (given .room) (c .if3 .taken))
 
 returns-4 : tie.Need-returns-4
 unfolding checks
 returns-4 c =
-    rw (not-false (c .before .before .before .args .order) (c .before .before .if1 .left), not-false (c .before .before .before .args .content) (c .before .if2 .left), not-false (c .before .before .before .args .room) (c .if3 .left))
+    let given = c .before .before .before .args in
+    rw (not-false (given .order) (c .before .before .if1 .left), not-false (given .content) (c .before .if2 .left), not-false (given .room) (c .if3 .left))
 
 pub checks-spec : {M : Type 1} → statement M
 checks-spec = tie.close (tie.spec returns returns-2 returns-3 returns-4)

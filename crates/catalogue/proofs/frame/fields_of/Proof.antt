@@ -45,8 +45,11 @@ upper-end-requires c κs = search needs
 
 returns : tie.Need-returns
 returns c =
-    fields-told (c .before .before .before .before .before .before .before .before .before .before .args .frame) (c .before .before .before .before .before .before .before .before .before .before .args .row .first) (c .before .before .before .before .before .before .before .before .before .before .args .row .second) (c .before .before .before .before .before .before .before .before .before .before .args .row .third)
-    (c .before .before .before .before .before .before .before .before .before .byte-in .ensures) (c .before .before .before .before .before .before .byte-in2 .ensures) (c .before .before .before .before .before .byte-in3 .ensures) (c .before .before .before .before .byte-in4 .ensures) (c .before .before .before .byte-in5 .ensures)
+    let given = c .before .before .before .before .before .before .before .before .before .before .args in
+    fields-told (given .frame) (given .row .first) (given .row .second) (given .row .third)
+    (c .before .before .before .before .before .before .before .before .before .byte-in .ensures)
+    (c .before .before .before .before .before .before .byte-in2 .ensures) (c .before .before .before .before .before .byte-in3 .ensures)
+    (c .before .before .before .before .byte-in4 .ensures) (c .before .before .before .byte-in5 .ensures)
     (c .before .before .version-in .ensures) (c .before .version-in2 .ensures) (c .upper-end .ensures)
 
 pub fields-of-spec : {M : Type 1} → statement M

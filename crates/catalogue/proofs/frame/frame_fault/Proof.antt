@@ -18,7 +18,8 @@ version-fault-requires c κs = search needs
 returns-2 : tie.Need-returns-2
 unfolding frameFault
 returns-2 c =
-    rw (ne-eqb (c .before .before .before .before .before .args .f .kind) 1 (c .before .before .before .if1 .left), eq-eqb (c .before .before .before .before .before .args .f .kind) 2 (c .before .if2 .taken)) (c .version-fault .ensures)
+    let given = c .before .before .before .before .before .args in
+    rw (ne-eqb (given .f .kind) 1 (c .before .before .before .if1 .left), eq-eqb (given .f .kind) 2 (c .before .if2 .taken)) (c .version-fault .ensures)
 
 need-fault-requires : tie.Need-need-fault-requires
 need-fault-requires c κs = search needs
@@ -26,7 +27,12 @@ need-fault-requires c κs = search needs
 returns-3 : tie.Need-returns-3
 unfolding frameFault
 returns-3 c =
-    rw (ne-eqb (c .before .before .before .before .before .before .before .before .args .f .kind) 1 (c .before .before .before .before .before .before .if1 .left), ne-eqb (c .before .before .before .before .before .before .before .before .args .f .kind) 2 (c .before .before .before .before .if2 .left), c .before .if3 .taken) (c .need-fault .ensures)
+    let given = c .before .before .before .before .before .before .before .before .args in
+    rw (
+      ne-eqb (given .f .kind) 1 (c .before .before .before .before .before .before .if1 .left),
+      ne-eqb (given .f .kind) 2 (c .before .before .before .before .if2 .left),
+      c .before .if3 .taken,
+    ) (c .need-fault .ensures)
 
 end-fault-requires : tie.Need-end-fault-requires
 end-fault-requires c κs = search needs
@@ -34,7 +40,12 @@ end-fault-requires c κs = search needs
 returns-4 : tie.Need-returns-4
 unfolding frameFault
 returns-4 c =
-    rw (ne-eqb (c .before .before .before .before .before .before .before .before .args .f .kind) 1 (c .before .before .before .before .before .before .if1 .left), ne-eqb (c .before .before .before .before .before .before .before .before .args .f .kind) 2 (c .before .before .before .before .if2 .left), c .before .if3 .left) (c .end-fault .ensures)
+    let given = c .before .before .before .before .before .before .before .before .args in
+    rw (
+      ne-eqb (given .f .kind) 1 (c .before .before .before .before .before .before .if1 .left),
+      ne-eqb (given .f .kind) 2 (c .before .before .before .before .if2 .left),
+      c .before .if3 .left,
+    ) (c .end-fault .ensures)
 
 pub frame-fault-spec : {M : Type 1} → statement M
 frame-fault-spec =

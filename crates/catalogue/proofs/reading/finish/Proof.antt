@@ -18,7 +18,11 @@ with-fault-requires c κs = search needs
 returns-2 : tie.Need-returns-2
 unfolding finished
 returns-2 c =
-    rw (eq-eqb (c .before .before .before .before .before .before .args .l .number) 0 (c .before .before .before .before .if1 .left), ne-eqb (c .before .before .before .before .before .before .args .l .state .stands) 2 (c .before .if2 .taken)) (c .with-fault .ensures)
+    let given = c .before .before .before .before .before .before .args in
+    rw (
+      eq-eqb (given .l .number) 0 (c .before .before .before .before .if1 .left),
+      ne-eqb (given .l .state .stands) 2 (c .before .if2 .taken),
+    ) (c .with-fault .ensures)
 
 half-at-requires : tie.Need-half-at-requires
 half-at-requires c κs = search needs

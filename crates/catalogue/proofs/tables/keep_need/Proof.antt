@@ -43,8 +43,19 @@ same-length-5 : tie.Need-same-length-5
 same-length-5 c = search needs
 
 returns : tie.Need-returns
-returns c =
-    (c .before .before .before .before .before .before .before .before .before .before .before .before .before .before .before .before .before .before .put-half .ensures, (c .before .before .before .before .before .before .before .before .before .before .before .before .before .before .put-half2 .ensures, (c .before .before .before .before .before .before .before .before .before .before .put-half3 .ensures, (c .before .before .before .before .before .before .put-word .ensures, c .before .before .put-word2 .ensures))))
+returns c = (
+  c .before .before .before .before .before .before .before .before .before .before .before .before .before .before .before .before .before .before .put-half .ensures,
+  (
+    c .before .before .before .before .before .before .before .before .before .before .before .before .before .before .put-half2 .ensures,
+    (
+      c .before .before .before .before .before .before .before .before .before .before .put-half3 .ensures,
+      (
+        c .before .before .before .before .before .before .put-word .ensures,
+        c .before .before .put-word2 .ensures,
+      ),
+    ),
+  ),
+)
 
 pub keep-need-spec : {M : Type 1} → statement M
 keep-need-spec =

@@ -34,7 +34,16 @@ same-length-4 : tie.Need-same-length-4
 same-length-4 c = search needs
 
 returns : tie.Need-returns
-returns c = (c .before .before .before .before .before .before .before .before .before .before .before .before .before .before .put-word .ensures, (c .before .before .before .before .before .before .before .before .before .before .put-half .ensures, (c .before .before .before .before .before .before .put-half2 .ensures, c .before .before .put-half3 .ensures)))
+returns c = (
+  c .before .before .before .before .before .before .before .before .before .before .before .before .before .before .put-word .ensures,
+  (
+    c .before .before .before .before .before .before .before .before .before .before .put-half .ensures,
+    (
+      c .before .before .before .before .before .before .put-half2 .ensures,
+      c .before .before .put-half3 .ensures,
+    ),
+  ),
+)
 
 pub keep-version-spec : {M : Type 1} → statement M
 keep-version-spec =

@@ -24,8 +24,11 @@ one-less-requires-2 c κs = search needs
 
 returns : tie.Need-returns
 returns c =
-    last-told (c .before .before .before .before .before .before .before .before .args .values .now) (c .before .before .before .before .before .before .before .before .args .owners .now) (c .before .before .before .before .before .before .before .before .args .marks .now) (c .before .before .before .before .before .before .before .before .args .versions)
-    (c .before .before .before .before .one-less .ensures) (c .before .before .before .half-at .ensures) (c .before .before .word-at .ensures) (c .before .half-at2 .ensures) (c .one-less2 .ensures)
+    let given = c .before .before .before .before .before .before .before .before .args in
+    last-told (given .values .now) (given .owners .now) (given .marks .now) (given .versions)
+    (c .before .before .before .before .one-less .ensures)
+    (c .before .before .before .half-at .ensures) (c .before .before .word-at .ensures)
+    (c .before .half-at2 .ensures) (c .one-less2 .ensures)
 
 pub last-of-spec : {M : Type 1} → statement M
 last-of-spec =
