@@ -242,21 +242,27 @@ module _ (bytes : List ℕ) (s : State) (t : Tables) (row : Kind) (f : Fields) (
       (ap (λ (k : ℕ). lineFaultOf size total (rowFor catalogues (byteAt bytes 0)) s (lastHad t s) k f) count-had ∙
       ap (λ (h : Fields). lineFaultOf size total (rowFor catalogues (byteAt bytes 0)) s (lastHad t s) (countHad t bytes) h) fields-had))
 
-  pub kept-told : kept t s z n f ≡ kept t s (lastHad t s) (countHad t bytes) (fieldsHad bytes)
+  pub after-told : after s f ≡ after s (fieldsHad bytes)
+  after-told = ap (after s) fields-had
+
+  kept-told : kept t s z n f ≡ kept t s (lastHad t s) (countHad t bytes) (fieldsHad bytes)
   kept-told =
       ap (λ (y : Last). kept t s y n f) (g .last-is) ∙
       (ap (λ (k : ℕ). kept t s (lastHad t s) k f) count-had ∙
       ap (λ (h : Fields). kept t s (lastHad t s) (countHad t bytes) h) fields-had)
 
-  pub after-told : after s f ≡ after s (fieldsHad bytes)
-  after-told = ap (after s) fields-had
-
--- the tables after the three calls that keep a frame
-pub tables-told : (t : Tables) (s : State) (z : Last) (n : ℕ) (f : Fields) {vs os ss m ms fs cs ns ts ls hs : List ℕ} →
-    vs ≡ keptAt (isVersion f) (s .versions) (f .low .0) (t .values) → os ≡ keptAt (isVersion f) (s .versions) (f .owner .0) (t .owners) →
-    ss ≡ keptAt (isVersion f) (s .versions) (s .needs) (t .starts) → m ≡ keptAt (isVersion f) (s .versions) 1 (t .marks) →
-    fs ≡ keptAt (isVersion f && eqb n 0) (f .owner .0) (s .versions) (t .firsts) → cs ≡ keptAt (isVersion f) (f .owner .0) (n + 1) (t .counts) →
-    ms ≡ keptAt (isNeed f) (z .place .0) (z .needs + 2) m → ns ≡ keptAt (isNeed f) (s .needs) (z .place .0) (t .needies) →
-    ts ≡ keptAt (isNeed f) (s .needs) (f .owner .0) (t .targets) → ls ≡ keptAt (isNeed f) (s .needs) (f .low .0) (t .lows) →
-    hs ≡ keptAt (isNeed f) (s .needs) (f .high .0) (t .highs) → tablesFrom vs os ss ms fs cs ns ts ls hs ≡ kept t s z n f
-tables-told t s z n f a b c d e g h i j k l = rw (a, b, c, h, d, e, g, i, j, k, l)
+  -- the tables after the three calls that keep a frame
+  pub tables-told : {vs os ss m ms fs cs ns ts ls hs : List ℕ} →
+      (vs ≡ keptAt (isVersion f) (s .versions) (f .low .0) (t .values)) ×
+      ((os ≡ keptAt (isVersion f) (s .versions) (f .owner .0) (t .owners)) ×
+      ((ss ≡ keptAt (isVersion f) (s .versions) (s .needs) (t .starts)) ×
+      (m ≡ keptAt (isVersion f) (s .versions) 1 (t .marks)))) →
+      (fs ≡ keptAt (isVersion f && eqb n 0) (f .owner .0) (s .versions) (t .firsts)) ×
+      (cs ≡ keptAt (isVersion f) (f .owner .0) (n + 1) (t .counts)) →
+      (ms ≡ keptAt (isNeed f) (z .place .0) (z .needs + 2) m) ×
+      ((ns ≡ keptAt (isNeed f) (s .needs) (z .place .0) (t .needies)) ×
+      ((ts ≡ keptAt (isNeed f) (s .needs) (f .owner .0) (t .targets)) ×
+      ((ls ≡ keptAt (isNeed f) (s .needs) (f .low .0) (t .lows)) ×
+      (hs ≡ keptAt (isNeed f) (s .needs) (f .high .0) (t .highs))))) →
+      tablesFrom vs os ss ms fs cs ns ts ls hs ≡ kept t s (lastHad t s) (countHad t bytes) (fieldsHad bytes)
+  tables-told (a, (b, (c, d))) (e, p) (h, (i, (j, (k, l)))) = rw (a, b, c, h, d, e, p, i, j, k, l) kept-told
