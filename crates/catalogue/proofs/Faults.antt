@@ -1,5 +1,5 @@
 -- A frame of a known kind: its fault (`fault-law`) and how the reading goes on (`after-law`) are those of the rules' reader, told by its fields and
--- the little that the code keeps beside the tables; and nothing of it counts but its bytes (`bytes-fault` and on). Assumes nothing.
+-- the little that the code keeps beside the tables. Of two frames with the same bytes the fields are the same (`bytes-fields`). Assumes nothing.
 use mathlib.Core.Path.{_≡_, refl, sym, _∙_, ap}
 use mathlib.Core.Logic.{⊎-elim, _≢_}
 use mathlib.Core.Bool.{Bool, true, false, _&&_, _||_, not, cond, and-true, or-assoc}
@@ -27,6 +27,7 @@ pub data Known (kind : ℕ) : Type 0 where
   a-caret : kind ≡ 5 → Known kind
   an-end : kind ≡ 4 → Known kind
 
+-- there is no other kind
 pub known-kind : (k : ℕ) → digitsFor catalogues k ≢ 0 → Known k
 unfolding rowIn kinds
 known-kind k h =
@@ -49,9 +50,11 @@ known-kind k h =
 abbrev fieldsBy : (kind : ℕ) → (frame : List ℕ) → Fields
 fieldsBy k f = fieldsAt (rowIn kinds catalogues k .first) (rowIn kinds catalogues k .second) (rowIn kinds catalogues k .third) f
 
+-- the row being that of the frame's own kind
 abbrev pub fieldsIn : (frame : List ℕ) → Fields
 fieldsIn f = fieldsBy (kindOf f) f
 
+-- the places of the fields, kind by kind
 module _ (f : List ℕ) where
   by-kind : (k : ℕ) → kindOf f ≡ k → fieldsIn f ≡ fieldsBy k f
   by-kind k e = ap (λ (n : ℕ). fieldsBy n f) e
@@ -81,7 +84,7 @@ checks-law : {a b d x y z : Bool} → a ≡ x → b ≡ y → d ≡ z → checks
 unfolding checks
 checks-law p q r = rw (p, q, r)
 
--- "hasVersion" as a test of the number of versions
+-- "hasVersion" and its negation as tests of the number of versions
 has-law : (vs : List Version) → not (eqb (length vs) 0) ≡ hasVersion vs
 has-law [] = refl
 has-law (v ∷ vs) = rw (eqb·suc-zero (length vs))
@@ -98,6 +101,7 @@ body-law n b c d p = ⊎-elim (λ e. rw e) (λ e. rw (ne-eqb n 0 e) (go (eqb n 1
     go true = sym p
     go false = refl
 
+-- the head's place is before everything
 head-law : (n : ℕ) (b c : Bool) → eqb n 0 ≡ cond (eqb n 0) true (eqb n 1 && false && b && c)
 head-law n b c = go (eqb n 0) (eqb n 1)
   where
@@ -132,7 +136,7 @@ version-fits : (major minor patch : ℕ) → major < 256 → minor < 256 → pat
 version-fits a b c h i j = le-leb (a * 65536 + b * 256 + c) 16777215 (omega arith)
 
 module _ (l : Limits) (u : Reading) (f : List ℕ) (bytes : (i : ℕ) → byteAt f i < 256) where
-  -- ORDER
+  -- ORDER, kind by kind: the code's test of where a frame stands is the rules'
   head-order : kindOf f ≡ 1 → eqb (u .stands) 0 ≡ orderFits u f
   unfolding orderFits
   head-order e = rw e (head-law (u .stands) _ _)
@@ -157,7 +161,7 @@ module _ (l : Limits) (u : Reading) (f : List ℕ) (bytes : (i : ℕ) → byteAt
   unfolding orderFits
   end-order e = rw e (sym (and-true (eqb (u .stands) 1)) ∙ body-law (u .stands) true true true refl)
 
-  -- CONTENT
+  -- CONTENT, kind by kind: the code's test of a frame's fields is the rules'
   version-content : kindOf f ≡ 2 → (ltb (byteAt f 1) (u .sofar .modules) && not (fieldsAt 1 2 0 f .topped)) ≡ contentFits (u .sofar) f
   unfolding contentFits
   version-content e =
@@ -177,7 +181,7 @@ module _ (l : Limits) (u : Reading) (f : List ℕ) (bytes : (i : ℕ) → byteAt
   unfolding contentFits
   caret-content e = rw (e, caret-law (byteAt f 2) (byteAt f 3) (byteAt f 4) (bytes 2) (bytes 3) (bytes 4))
 
-  -- FAULTS: what the code tells, by the fields
+  -- FAULTS, kind by kind: what the code tells, by the fields, is the reader's
   abbrev told : Fields → ℕ
   told g = frameFault l (stateOf u) (lastOf (u .sofar)) (length (placesOf (u .sofar) (g .owner .0))) g
 
@@ -201,6 +205,7 @@ module _ (l : Limits) (u : Reading) (f : List ℕ) (bytes : (i : ℕ) → byteAt
   unfolding frameFault contentFits roomFits
   end-fault e = rw e (checks-law (end-order e) refl refl)
 
+  -- so it is for every known kind
   pub fault-law : digitsFor catalogues (kindOf f) ≢ 0 →
       frameFault l (stateOf u) (lastOf (u .sofar)) (length (placesOf (u .sofar) (fieldsIn f .owner .0))) (fieldsIn f) ≡ catalogueReader l .fault u f
   fault-law h = go (known-kind (kindOf f) h)
@@ -213,7 +218,7 @@ module _ (l : Limits) (u : Reading) (f : List ℕ) (bytes : (i : ℕ) → byteAt
       go (an-end e) = ap told (end-fields f e) ∙ end-fault e
 
 module _ (l : Limits) (u : Reading) (f : List ℕ) where
-  -- the state after the frame, by the rules and, by the fields, by the code
+  -- THE STATE after the frame, kind by kind: by the rules, and by the code from the fields
   abbrev next : State
   next = stateOf (catalogueReader l .after u f)
 
@@ -240,6 +245,7 @@ module _ (l : Limits) (u : Reading) (f : List ℕ) where
   unfolding withFrame after
   end-next e = rw e
 
+  -- so it is for every known kind
   pub after-law : digitsFor catalogues (kindOf f) ≢ 0 → stateOf (catalogueReader l .after u f) ≡ after (stateOf u) (fieldsIn f)
   after-law h = go (known-kind (kindOf f) h)
     where
@@ -250,15 +256,6 @@ module _ (l : Limits) (u : Reading) (f : List ℕ) where
       go (a-caret e) = caret-next e ∙ ap goes (sym (caret-fields f e))
       go (an-end e) = end-next e ∙ ap goes (sym (end-fields f e))
 
--- NOTHING BUT THE BYTES counts
-module _ (l : Limits) (u : Reading) (f g : List ℕ) (alike : (i : ℕ) → byteAt g i ≡ byteAt f i) where
-  pub bytes-fault : catalogueReader l .fault u g ≡ catalogueReader l .fault u f
-  unfolding orderFits contentFits roomFits
-  bytes-fault = simp alike
-
-  pub bytes-after : catalogueReader l .after u g ≡ catalogueReader l .after u f
-  unfolding withFrame
-  bytes-after = simp alike
-
-  pub bytes-fields : (i j k : ℕ) → fieldsAt i j k g ≡ fieldsAt i j k f
-  bytes-fields i j k = simp alike
+-- THE FIELDS are told by the bytes alone
+pub bytes-fields : (f g : List ℕ) → ((i : ℕ) → byteAt g i ≡ byteAt f i) → (i j k : ℕ) → fieldsAt i j k g ≡ fieldsAt i j k f
+bytes-fields f g alike i j k = simp alike

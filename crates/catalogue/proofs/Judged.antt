@@ -1,25 +1,26 @@
--- A line's fault as the code finds it, from the bytes it has kept, is the reader's (line-judged). Assumes nothing.
-use mathlib.Core.Path.{_≡_, refl, sym, _∙_, ap, subst}
+-- A line's fault as the code finds it, from the bytes it has kept, is the reader's (`line-judged`). Of a line that fits its kind all bytes are kept,
+-- so that its fields are the frame's (`fields-same`). Assumes nothing.
+use mathlib.Core.Path.{_≡_, refl, sym, _∙_, ap}
 use mathlib.Core.Logic.{_⊎_, inl, inr, ⊎-elim, _≢_}
 use mathlib.Core.Bool.{Bool, true, false}
 use mathlib.Core.List.{List}
-use Prim.Native.Nat.{ℕ, _+_, _*_, _%_, _≤_, _<_}
+use Prim.Native.Nat.{ℕ, _*_, _≤_, _<_}
 use native.Mathlib.Omega.{arith}
 use lib.Dec.{leb, ltb, eqb}
 use lib.ListN.{length, List·getD-eq-default}
 use borrow.Author.Tests.{eq-eqb, ne-eqb, eqb-true, eqb-false, leb-true, ltb-true, ltb-false}
 use Rattle.rules.specs.Lines.{orElse, unless, Line, line, shapeFits}
 use Rattle.rules.specs.Frames.{frameOf, byteAt, kindOf, catalogues, kinds, rowIn, digitsFor, sumFits, kindFits, lineFault}
-use Rattle.rules.specs.Catalogue.{Reading, placesOf, limits, catalogueReader}
+use Rattle.rules.specs.Catalogue.{Reading, placesOf, limits}
 use Rattle.rules.proofs.Lists.{true-or-false}
 use Rattle.rules.proofs.Written.{hex-written, byte-small}
 use Rattle.frames.specs.Kinds.{rowFor}
 use Rattle.frames.proofs.Lines.{frame-size, shape-size}
 use Rattle.frames.proofs.InLine.{longest, InLine}
 use Rattle.catalogue.specs.declared.frame.Fields.{Fields}
-use Rattle.catalogue.specs.Frame.{stateOf, lastOf, fieldsAt, frameFault, after}
+use Rattle.catalogue.specs.Frame.{stateOf, lastOf, fieldsAt, frameFault}
 use Rattle.catalogue.specs.Reading.{lineFaultOf, reader}
-use Rattle.catalogue.proofs.Faults.{Known, known-kind, a-head, a-version, a-need, a-caret, an-end, fieldsIn, fault-law, after-law, bytes-fault, bytes-after, bytes-fields}
+use Rattle.catalogue.proofs.Faults.{Known, known-kind, a-head, a-version, a-need, a-caret, an-end, fieldsIn, fault-law, bytes-fields}
 
 -- equal tests in order, and what follows them where they pass
 in-order : (a b d : Bool) (x y : ℕ) → (a ≡ true → d ≡ true → x ≡ y) →
@@ -29,8 +30,15 @@ in-order true false d x y h = refl
 in-order true true false x y h = refl
 in-order true true true x y h = rw (h refl refl)
 
+-- whether two numbers are equal is the same either way round
 eqb-turned : (m n : ℕ) → eqb m n ≡ eqb n m
-eqb-turned m n = ⊎-elim (λ e. e ∙ sym (eq-eqb n m (sym (eqb-true m n e)))) (λ e. e ∙ sym (ne-eqb n m (λ p. eqb-false m n e (sym p)))) (true-or-false (eqb m n))
+eqb-turned m n = ⊎-elim same other (true-or-false (eqb m n))
+  where
+    same : eqb m n ≡ true → eqb m n ≡ eqb n m
+    same e = e ∙ sym (eq-eqb n m (sym (eqb-true m n e)))
+
+    other : eqb m n ≡ false → eqb m n ≡ eqb n m
+    other e = e ∙ sym (ne-eqb n m (λ p. eqb-false m n e (sym p)))
 
 -- no frame of a catalogue is longer than the longest
 digits-most : (k : ℕ) → digitsFor catalogues k ≢ 0 → digitsFor catalogues k ≤ 2 * longest
@@ -44,19 +52,21 @@ digits-most k h = go (known-kind k h)
     go (a-caret e) = rw e (omega arith)
     go (an-end e) = rw e (omega arith)
 
+-- the fields that the code reads of the bytes it has kept, by the row of their kind
+abbrev pub fieldsHad : (bytes : List ℕ) → Fields
+fieldsHad f = fieldsAt (rowFor catalogues (byteAt f 0) .first) (rowFor catalogues (byteAt f 0) .second) (rowFor catalogues (byteAt f 0) .third) f
+
 module _ (text : List ℕ) (from at : ℕ) (kept : List ℕ) (bytes total : ℕ) (q : InLine text from at kept bytes total) (u : Reading) where
   abbrev pub frame : List ℕ
   frame = frameOf (q .digits)
 
-  -- the fields, by the row of the kind of the bytes kept
-  abbrev pub fieldsKept : Fields
-  fieldsKept = fieldsAt (rowFor catalogues (byteAt kept 0) .first) (rowFor catalogues (byteAt kept 0) .second) (rowFor catalogues (byteAt kept 0) .third) kept
-
+  -- the kind is kept of every line
   same-kind : byteAt kept 0 ≡ kindOf frame
   same-kind = q .frame-is 0 (omega arith)
 
-  -- a line that fits its kind has all its bytes kept
+  -- OF A LINE THAT FITS ITS KIND
   module _ (fits : kindFits catalogues (line (q .digits) true) ≡ true) (some : leb 2 bytes ≡ true) where
+    -- the kind is a known one
     pub known : digitsFor catalogues (kindOf frame) ≢ 0
     unfolding kindFits
     known z =
@@ -64,12 +74,14 @@ module _ (text : List ℕ) (from at : ℕ) (kept : List ℕ) (bytes total : ℕ)
         let two = leb-true 2 bytes some in
         omega (arith, q .bytes-are, eqb-true (length (q .digits)) (digitsFor catalogues (kindOf frame)) fits)
 
+    -- its frame is no longer than the bytes that can be kept
     short : length frame ≤ longest
     unfolding kindFits
     short =
         let size = frame-size (q .digits) (q .even) in
         omega (arith, digits-most (kindOf frame) known, eqb-true (length (q .digits)) (digitsFor catalogues (kindOf frame)) fits)
 
+    -- so that all its bytes are kept, and none besides
     alike : (i : ℕ) → byteAt kept i ≡ byteAt frame i
     alike i = ⊎-elim (λ h. q .frame-is i h) past (below-or-not i)
       where
@@ -84,22 +96,23 @@ module _ (text : List ℕ) (from at : ℕ) (kept : List ℕ) (bytes total : ℕ)
     pub bytes-small : (i : ℕ) → byteAt frame i < 256
     bytes-small i = byte-small (frameOf (q .digits)) i (hex-written (q .digits) (q .good) (q .even) .1)
 
-    pub fields-same : fieldsKept ≡ fieldsIn frame
+    pub fields-same : fieldsHad kept ≡ fieldsIn frame
     fields-same =
-        bytes-fields limits u frame kept alike _ _ _ ∙
+        bytes-fields frame kept alike _ _ _ ∙
         ap (λ (k : ℕ). fieldsAt (rowFor catalogues k .first) (rowFor catalogues k .second) (rowFor catalogues k .third) frame) same-kind
 
-    -- what the code finds of the frame
-    frame-judged : frameFault limits (stateOf u) (lastOf (u .sofar)) (length (placesOf (u .sofar) (fieldsKept .owner .0))) fieldsKept ≡
+    -- what the code finds of the frame is the reader's fault
+    frame-judged : frameFault limits (stateOf u) (lastOf (u .sofar)) (length (placesOf (u .sofar) (fieldsHad kept .owner .0))) (fieldsHad kept) ≡
         reader .fault u frame
     frame-judged = ap found fields-same ∙ fault-law limits u frame bytes-small known
       where
         found : Fields → ℕ
         found g = frameFault limits (stateOf u) (lastOf (u .sofar)) (length (placesOf (u .sofar) (g .owner .0))) g
 
+  -- and what it finds of any line
   pub line-judged :
       lineFaultOf bytes total (rowFor catalogues (byteAt kept 0)) (stateOf u) (lastOf (u .sofar))
-      (length (placesOf (u .sofar) (fieldsKept .owner .0))) fieldsKept ≡
+      (length (placesOf (u .sofar) (fieldsHad kept .owner .0))) (fieldsHad kept) ≡
       lineFault reader u (line (q .digits) true)
   unfolding lineFaultOf lineFault sumFits kindFits
   line-judged =

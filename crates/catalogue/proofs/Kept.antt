@@ -9,7 +9,7 @@ use native.Mathlib.Omega.{arith}
 use native.Mathlib.Numerals.{add-one}
 use native.Mathlib.Nat.{not-suc-le-zero}
 use lib.Dec.{ltb, leb, eqb}
-use lib.ListN.{length, getD, set, replicate, length-set, length-replicate, List·getD-append, List·getD-eq-default}
+use lib.ListN.{length, getD, set, replicate, length-set, length-replicate, List·getD-append}
 use lib.Seq.{getD-set-same, getD-set-other, getD-append-seam}
 use borrow.Author.Tests.{ltb-true, ltb-false, leb-true, eqb-true, eqb-false, eq-eqb, ne-eqb, lt-ltb, le-ltb, not-true}
 use Rattle.rules.specs.Lists.{isIn, keep, upFrom, below}
@@ -19,6 +19,7 @@ use Rattle.rules.specs.Catalogue.{Version, Need, Catalogue, catalogue, noCatalo
 use Rattle.rules.specs.Catalogue.{needsOf, lastVersion, limits, Reading, reading, catalogueReader, isEnd, versionIn, withFrame}
 use Rattle.rules.proofs.Lists.{and-fst, and-snd, or-cases, same-or-not, longer, length-last}
 use Rattle.rules.proofs.Readers.{orElse-none, unless-none}
+use Rattle.frames.proofs.InLine.{getD-zeros, longer-other}
 use Rattle.catalogue.specs.declared.frame.Fields.{Fields}
 use Rattle.catalogue.specs.declared.frame.State.{State}
 use Rattle.catalogue.specs.declared.frame.Last.{Last}
@@ -40,21 +41,12 @@ set-each : (P : ℕ → ℕ → Type 0) (xs : List ℕ) (at x : ℕ) → at < le
 set-each P xs at x h new old =
     everywhere (λ i. P i (getD (set xs at x) i 0)) at (rw (getD-set-same xs at x 0 h) new) (λ i e. rw (getD-set-other xs at i x 0 e) (old i e))
 
+-- so a bound of every entry
 set-most : (most : ℕ) (xs : List ℕ) (at x : ℕ) → at < length xs → x ≤ most → ((i : ℕ) → getD xs i 0 ≤ most) →
     (i : ℕ) → getD (set xs at x) i 0 ≤ most
 set-most most xs at x h new old = set-each (λ i y. y ≤ most) xs at x h new (λ i e. old i)
 
--- a longer list is as it was but at the new place
-longer-other : {A : Type 0} (d : A) (xs : List A) (x : A) (i : ℕ) → i ≢ length xs → getD (longer xs x) i d ≡ getD xs i d
-longer-other {A} d xs x i h = go (ltb i (length xs)) refl
-  where
-    go : (b : Bool) → ltb i (length xs) ≡ b → getD (longer xs x) i d ≡ getD xs i d
-    go true e = List·getD-append xs (x ∷ []) d i (ltb-true _ _ e)
-    go false e =
-        let g : length xs ≤ i = ltb-false _ _ e in
-        let k : length (longer xs x) ≤ i = omega (arith, length-last xs x) in
-        List·getD-eq-default (longer xs x) d k ∙ sym (List·getD-eq-default xs d g)
-
+-- the last place of a longer list
 before-last : {A : Type 0} (xs : List A) (x : A) → length (longer xs x) - 1 ≡ length xs
 before-last xs x = omega (arith, length-last xs x)
 
@@ -73,6 +65,7 @@ set-next {A} d p ns xs x h old =
     set-each (λ i y. y ≡ p (getD (longer xs x) i d)) ns (length xs) (p x) h (rw (getD-append-seam xs x [] d))
     (λ i e. rw (longer-other d xs x i e) (old i))
 
+-- numbers from `i` up are as many as asked for
 length-upFrom : (i n : ℕ) → length (upFrom i n) ≡ n
 unfolding upFrom
 length-upFrom i zero = refl
@@ -86,6 +79,7 @@ upFrom-last i (suc n) =
     let e : suc i + n ≡ i + suc n = omega arith in
     ap (λ (l : List ℕ). i ∷ l) (upFrom-last (suc i) n ∙ ap (λ (k : ℕ). longer (upFrom (suc i) n) k) e)
 
+-- so numbers from `i` up, with the next one behind them, are one more
 upFrom-more : (xs : List ℕ) (i n at : ℕ) → xs ≡ upFrom i n → i + n ≡ at → longer xs at ≡ upFrom i (suc n)
 upFrom-more xs i n at p q = rw (p, ← q) (sym (upFrom-last i n))
 
@@ -106,10 +100,11 @@ keep-more-from f g i (suc n) h =
     go true = refl
     go false = refl
 
+-- the same from 0 on
 keep-more : (f g : ℕ → Bool) (n : ℕ) → ((k : ℕ) → k < n → g k ≡ f k) → keep g (below (suc n)) ≡ keep f (below n) ++ cond (g n) (n ∷ []) []
 keep-more f g n h = let e : 0 + n ≡ n = omega arith in rw e at (keep-more-from f g 0 n (λ k l. h k (omega arith)))
 
--- TIDY TABLES
+-- TIDY TABLES: their sizes are the code's
 pub record Sizes (t : Tables) : Type 0 where
   pub values : length (t .values) ≡ 512
   pub owners : length (t .owners) ≡ 512
@@ -141,40 +136,37 @@ pub record Tidy (t : Tables) (c : Catalogue) : Type 0 where
   pub counts-fit : (m : ℕ) → getD (t .counts) m 0 ≤ 16
   pub marks-fit : (i : ℕ) → getD (t .marks) i 0 ≤ 17
 
--- how many versions a module has, and needs a version
+-- how many versions a module has
 pub count-holds : {t : Tables} {c : Catalogue} → Holds t c → (m : ℕ) → getD (t .counts) m 0 ≡ length (placesOf c m)
 count-holds {t} {c} h m = sym (ap length (h .places m) ∙ length-upFrom _ _)
 
 pub count-law : {t : Tables} {c : Catalogue} → Tidy t c → (m : ℕ) → getD (t .counts) m 0 ≡ length (placesOf c m)
 count-law h m = count-holds (h .holds) m
 
+-- and needs a version
 pub mark-law : {t : Tables} {c : Catalogue} → Tidy t c → (i : ℕ) → getD (t .marks) i 0 - 1 ≡ length (needsOf c i)
 mark-law {t} {c} h i = sym (ap length (h .holds .needs i) ∙ length-upFrom _ _)
 
--- AT THE START
-all-zero : (n i : ℕ) → getD {A = ℕ} (replicate n 0) i 0 ≡ 0
-all-zero zero i = refl
-all-zero (suc n) zero = refl
-all-zero (suc n) (suc i) = all-zero n i
-
+-- AT THE START: tables of zeros
 zeros : (n : ℕ) → length {A = ℕ} (replicate n 0) ≡ n
 zeros n = length-replicate n 0
 
+-- hold the catalogue with nothing in it
 pub tidy-start : Tidy noTables noCatalogue
 unfolding keep upFrom
 tidy-start =
     record {
       holds =
           record {
-            values = all-zero 512;
-            owners = all-zero 512;
-            used = λ i. rw (all-zero 512 i, le-ltb i 0 (omega arith));
-            needs = λ i. rw (all-zero 512 i);
-            places = λ m. rw (all-zero 32 m);
-            needies = all-zero 1024;
-            targets = all-zero 1024;
-            lows = all-zero 1024;
-            highs = all-zero 1024;
+            values = getD-zeros 512;
+            owners = getD-zeros 512;
+            used = λ i. rw (getD-zeros 512 i, le-ltb i 0 (omega arith));
+            needs = λ i. rw (getD-zeros 512 i);
+            places = λ m. rw (getD-zeros 32 m);
+            needies = getD-zeros 1024;
+            targets = getD-zeros 1024;
+            lows = getD-zeros 1024;
+            highs = getD-zeros 1024;
           };
       sizes =
           record {
@@ -193,8 +185,8 @@ tidy-start =
       modules-fit = omega arith;
       versions-fit = omega arith;
       needs-fit = omega arith;
-      counts-fit = λ m. rw (all-zero 32 m) (omega arith);
-      marks-fit = λ i. rw (all-zero 512 i) (omega arith);
+      counts-fit = λ m. rw (getD-zeros 32 m) (omega arith);
+      marks-fit = λ i. rw (getD-zeros 512 i) (omega arith);
     }
 
 -- the head of a catalogue with nothing in it so far
@@ -223,7 +215,7 @@ head-tidy m fits h =
       marks-fit = h .marks-fit;
     }
 
--- what a frame leaves of the sizes
+-- a frame leaves the sizes as they are
 kept-length : (z : Bool) (i x : ℕ) (xs : List ℕ) → length (keptAt z i x xs) ≡ length xs
 kept-length true i x xs = length-set xs i x
 kept-length false i x xs = refl
@@ -243,7 +235,7 @@ kept-sizes {t} s z n f h =
       highs = kept-length (isNeed f) _ _ (t .highs) ∙ h .highs;
     }
 
--- A VERSION MORE
+-- A VERSION MORE: the catalogue with it, the fields of its frame, and the tables after that frame
 abbrev moreVersions : Catalogue → Version → Catalogue
 moreVersions c v = catalogue (c .modules) (longer (c .versions) v) (c .needs)
 
@@ -253,10 +245,11 @@ versionFields v = record { kind = 2; owner = moduleNo (v .owner); low = version 
 abbrev withVersion : Tables → Catalogue → Version → Tables
 withVersion t c v = kept t (stateOf (reading 1 c)) (lastOf c) (length (placesOf c (v .owner))) (versionFields v)
 
--- the new version is the last, and one more of its module's
+-- the new version is the last
 last-grown : (c : Catalogue) (v : Version) → lastVersion (moreVersions c v) ≡ v
 last-grown c v = rw (before-last (c .versions) v) (getD-append-seam (c .versions) v [] noVersion)
 
+-- and one more of its module's
 places-grown : (c : Catalogue) (v : Version) (m : ℕ) →
     placesOf (moreVersions c v) m ≡ placesOf c m ++ cond (eqb (v .owner) m) (length (c .versions) ∷ []) []
 unfolding isOf
@@ -302,9 +295,11 @@ module _ {t : Tables} {c : Catalogue} (tidy : Tidy t c) where
         some : 0 < length (c .versions) → A
         some h = ⊎-elim (earlier h (tidy .ends h)) (same h (tidy .ends h)) (rises h)
 
+    -- how many versions its module has, if it is the last version's module
     count-same : lastVersion c .owner ≡ v .owner → getD (t .counts) (lastVersion c .owner) 0 ≡ length (placesOf c (v .owner))
     count-same e = ap (λ (m : ℕ). getD (t .counts) m 0) e ∙ count-law tidy (v .owner)
 
+    -- there is a place for it
     place-fits : length (c .versions) < 512
     place-fits =
         by-last (length (c .versions) < 512) (λ e. omega arith) (λ h z e. omega (arith, tidy .counts-fit (lastVersion c .owner)))
@@ -331,6 +326,7 @@ module _ {t : Tables} {c : Catalogue} (tidy : Tidy t c) where
                 by-last _ (λ z. absurd (some (none-of z (v .owner)))) (λ h z l. absurd (some (z .later (v .owner) l)))
                 (λ h z l. rw (count-law tidy (v .owner)) at (rw l at (z .tail)))
 
+    -- the first places of other modules are as they were
     first-other : (m : ℕ) → m ≢ v .owner → getD (withVersion t c v .firsts) m 0 ≡ getD (t .firsts) m 0
     first-other m h = go (eqb (length (placesOf c (v .owner))) 0)
       where
@@ -344,6 +340,7 @@ module _ {t : Tables} {c : Catalogue} (tidy : Tidy t c) where
         let l : v .owner < length (t .counts) = omega (arith, tidy .sizes .counts) in
         getD-set-same (t .counts) (v .owner) _ 0 l ∙ add-one _
 
+    -- which places its module has, then other modules, then every module
     places-new : placesOf (moreVersions c v) (v .owner) ≡
         upFrom (getD (withVersion t c v .firsts) (v .owner) 0) (getD (withVersion t c v .counts) (v .owner) 0)
     places-new =
@@ -376,12 +373,14 @@ module _ {t : Tables} {c : Catalogue} (tidy : Tidy t c) where
         old : (i : ℕ) → i ≢ length (c .versions) → eqb (getD (t .marks) i 0) 0 ≡ not (ltb i (length (longer (c .versions) v)))
         old i h = tidy .holds .used i ∙ ap not (longer-has (c .versions) v i h)
 
+    -- where its needs begin, and how many it has
     start-new : getD (withVersion t c v .starts) (length (c .versions)) 0 ≡ length (c .needs)
     start-new = getD-set-same (t .starts) (length (c .versions)) (length (c .needs)) 0 (omega (arith, place-fits))
 
     mark-new : getD (withVersion t c v .marks) (length (c .versions)) 0 ≡ 1
     mark-new = getD-set-same (t .marks) (length (c .versions)) 1 0 (omega (arith, place-fits))
 
+    -- which needs it has, then other versions, then every version
     needs-new : needsOf c (length (c .versions)) ≡
         upFrom (getD (withVersion t c v .starts) (length (c .versions)) 0) (getD (withVersion t c v .marks) (length (c .versions)) 0 - 1)
     unfolding upFrom
@@ -403,6 +402,7 @@ module _ {t : Tables} {c : Catalogue} (tidy : Tidy t c) where
         everywhere (λ i. needsOf c i ≡ upFrom (getD (withVersion t c v .starts) i 0) (getD (withVersion t c v .marks) i 0 - 1))
         (length (c .versions)) needs-new needs-other
 
+    -- it is the last, so its needs and its module's versions end the tables
     ends-kept : Ends (withVersion t c v) (moreVersions c v)
     ends-kept =
         record {
@@ -423,6 +423,7 @@ module _ {t : Tables} {c : Catalogue} (tidy : Tidy t c) where
             by-last _ (λ z. omega (arith, n, count-new)) (λ k z l. omega (arith, n, count-new, tidy .counts-fit (lastVersion c .owner)))
             (λ k z l. omega (arith, n, count-new, count-same l))
 
+    -- the tables with it are tidy
     version-tidy : Tidy (withVersion t c v) (moreVersions c v)
     version-tidy =
         record {
@@ -447,7 +448,7 @@ module _ {t : Tables} {c : Catalogue} (tidy : Tidy t c) where
           marks-fit = set-most 17 (t .marks) (length (c .versions)) 1 (omega (arith, place-fits)) (omega arith) (tidy .marks-fit);
         }
 
--- A NEED MORE, of the last version
+-- A NEED MORE, of the last version: the catalogue with it, the fields of its frame, and the tables after that frame
 abbrev moreNeeds : Catalogue → Need → Catalogue
 moreNeeds c x = catalogue (c .modules) (c .versions) (longer (c .needs) x)
 
@@ -474,9 +475,11 @@ needs-grown c x i =
 
 module _ {t : Tables} {c : Catalogue} (tidy : Tidy t c) (m a b : ℕ) (some : 0 < length (c .versions))
     (room : length (needsOf c (length (c .versions) - 1)) < 16) (total : length (c .needs) < 1024) where
+  -- the last version's needs are one more
   mark-set : getD (withNeed t c m a b .marks) (length (c .versions) - 1) 0 ≡ length (needsOf c (length (c .versions) - 1)) + 2
   mark-set = getD-set-same (t .marks) (length (c .versions) - 1) _ 0 (omega (arith, tidy .sizes .marks))
 
+  -- the marks tell the versions that are there, as before
   need-used : (i : ℕ) → eqb (getD (withNeed t c m a b .marks) i 0) 0 ≡ not (ltb i (length (c .versions)))
   need-used = set-each (λ i x. eqb x 0 ≡ not (ltb i (length (c .versions)))) (t .marks) (length (c .versions) - 1) _ within new (λ i h. tidy .holds .used i)
     where
@@ -501,6 +504,7 @@ module _ {t : Tables} {c : Catalogue} (tidy : Tidy t c) (m a b : ℕ) (some : 0 
       let four : suc n ≡ getD (withNeed t c m a b .marks) p 0 - 1 = omega (arith, mark-set) in
       one ∙ upFrom-more (needsOf c p) k n (length (c .needs)) two three ∙ ap (upFrom k) four
 
+  -- the needs of other versions are as they were
   need-others : (i : ℕ) → i ≢ length (c .versions) - 1 →
       needsOf (moreNeeds c (lastNeed c m a b)) i ≡ upFrom (getD (t .starts) i 0) (getD (withNeed t c m a b .marks) i 0 - 1)
   need-others i h =
@@ -508,11 +512,13 @@ module _ {t : Tables} {c : Catalogue} (tidy : Tidy t c) (m a b : ℕ) (some : 0 
       rw (getD-set-other (t .marks) (length (c .versions) - 1) i (length (needsOf c (length (c .versions) - 1)) + 2) 0 h)
       (one ∙ append-nil (needsOf c i) ∙ tidy .holds .needs i)
 
+  -- so the needs of every version
   need-needs : (i : ℕ) → needsOf (moreNeeds c (lastNeed c m a b)) i ≡ upFrom (getD (t .starts) i 0) (getD (withNeed t c m a b .marks) i 0 - 1)
   need-needs =
       everywhere (λ i. needsOf (moreNeeds c (lastNeed c m a b)) i ≡ upFrom (getD (t .starts) i 0) (getD (withNeed t c m a b .marks) i 0 - 1))
       (length (c .versions) - 1) needs-last need-others
 
+  -- the last needs are still the last version's
   need-ends : Ends (withNeed t c m a b) (moreNeeds c (lastNeed c m a b))
   need-ends =
       let z = tidy .ends some in
@@ -528,6 +534,7 @@ module _ {t : Tables} {c : Catalogue} (tidy : Tidy t c) (m a b : ℕ) (some : 0 
       (k : ℕ) → getD (set ns (length (c .needs)) (p (lastNeed c m a b))) k 0 ≡ p (needAt (moreNeeds c (lastNeed c m a b)) k)
   set-need p ns h = set-next noNeed p ns (c .needs) (lastNeed c m a b) (omega arith)
 
+  -- the tables with it are tidy
   need-tidy : Tidy (withNeed t c m a b) (moreNeeds c (lastNeed c m a b))
   unfolding isOf
   need-tidy =
@@ -597,7 +604,7 @@ need-passes u g h =
     let room = ltb (length (needsOf (u .sofar) (length (u .sofar .versions) - 1))) 16 in
     (omega arith, ltb-true _ 16 (and-fst _ _ (passes .2)), ltb-true _ 1024 (and-snd room _ (passes .2)))
 
--- the tables that are kept of a frame, by its fields
+-- the tables kept of a frame that tells no fault are tidy again, kind by kind
 module _ {t : Tables} (u : Reading) (f : List ℕ) (tidy : Tidy t (u .sofar)) where
   abbrev Keeps : Fields → Type 0
   Keeps g =
@@ -633,7 +640,7 @@ module _ {t : Tables} (u : Reading) (f : List ℕ) (tidy : Tidy t (u .sofar)) wh
   unfolding withFrame
   end-keeps e h = rw e tidy
 
-  -- a frame of a known kind that the reader finds no fault with
+  -- so of a frame of a known kind that the reader finds no fault with
   pub tidy-step : (u .stands ≡ 0 → u .sofar ≡ noCatalogue) → ((i : ℕ) → byteAt f i < 256) → digitsFor catalogues (kindOf f) ≢ 0 →
       catalogueReader limits .fault u f ≡ 0 →
       Tidy (kept t (stateOf u) (lastOf (u .sofar)) (length (placesOf (u .sofar) (fieldsIn f .owner .0))) (fieldsIn f)) (withFrame (u .sofar) f)
@@ -651,9 +658,11 @@ pub record Reads (t : Tables) (u : Reading) : Type 0 where
   pub tidy : Tidy t (u .sofar)
   pub none : u .stands ≡ 0 → u .sofar ≡ noCatalogue
 
+-- so it is at the start
 pub reads-start : Reads noTables (reading 0 noCatalogue)
 reads-start = record { tidy = tidy-start; none = λ e. refl }
 
+-- and after a frame of a known kind that the reader finds no fault with
 pub reads-step : {t : Tables} (u : Reading) (f : List ℕ) → Reads t u → ((i : ℕ) → byteAt f i < 256) → digitsFor catalogues (kindOf f) ≢ 0 →
     catalogueReader limits .fault u f ≡ 0 →
     Reads (kept t (stateOf u) (lastOf (u .sofar)) (length (placesOf (u .sofar) (fieldsIn f .owner .0))) (fieldsIn f)) (catalogueReader limits .after u f)

@@ -1,18 +1,20 @@
--- The loop over lines: what holds at the start of each line (AtLine), that a good line keeps it (line-kept), and what is owed when the reading stops
--- at a faulty line (line-stops), at something wrong in it (wrong-stops) or at the end of the text (end-stops). Assumes nothing.
+-- The loop over lines: what holds at the start of each line (`AtLine`), that a good line keeps it (`line-kept`), and what is owed when the reading
+-- stops at a faulty line (`line-stops`), at something wrong in it (`wrong-stops`) or at the end of the text (`end-stops`). These speak of the fields,
+-- the last version and the count that a line's bytes and the tables give; what the calls return is just that (`found-told`, `after-told`,
+-- `tables-told`). Assumes nothing.
 use mathlib.Core.Path.{_≡_, refl, sym, _∙_, ap, subst}
 use mathlib.Core.Logic.{_≢_}
-use mathlib.Core.Bool.{Bool, true, false, _&&_, cond}
+use mathlib.Core.Bool.{true, _&&_}
 use mathlib.Core.List.{List, [], _∷_}
-use Prim.Native.Nat.{ℕ, suc, _+_, _≤_, _<_}
+use Prim.Native.Nat.{ℕ, suc, _+_, _≤_}
 use native.Mathlib.Omega.{arith}
 use native.Mathlib.Numerals.{add-one}
 use lib.Dec.{leb, eqb}
 use lib.ListN.{length, getD, drop, drop-of-length-le}
-use borrow.Author.Tests.{eq-eqb, ne-eqb}
+use borrow.Author.Tests.{ne-eqb}
 use Rattle.rules.specs.Lines.{fault, Line, line, linesOf}
-use Rattle.rules.specs.Frames.{frameOf, byteAt, kindOf, digitsFor, catalogues, Read, bad, lineFault, readFrom}
-use Rattle.rules.specs.Catalogue.{Catalogue, Reading, placesOf, limits, catalogueReader}
+use Rattle.rules.specs.Frames.{frameOf, byteAt, kindOf, digitsFor, catalogues, bad, lineFault, readFrom}
+use Rattle.rules.specs.Catalogue.{Catalogue, Reading, placesOf, limits}
 use Rattle.rules.proofs.Readers.{Good, good-line}
 use Rattle.frames.specs.Digits.{pairAt}
 use Rattle.frames.specs.Reached.{reachedFrom}
@@ -29,8 +31,8 @@ use Rattle.catalogue.specs.declared.reading.Lines.{Lines}
 use Rattle.catalogue.specs.Frame.{stateOf, lastOf, fieldsAt, after}
 use Rattle.catalogue.specs.Tables.{keptAt, isVersion, isNeed, Holds, kept, lastIn}
 use Rattle.catalogue.specs.Reading.{lineFaultOf, start, reader, reached, LinesRead, noTables}
-use Rattle.catalogue.proofs.Kept.{Tidy, Reads, reads-start, reads-step, count-law, last-law}
-use Rattle.catalogue.proofs.Judged.{known, bytes-small, fields-same, line-judged}
+use Rattle.catalogue.proofs.Kept.{Reads, reads-start, reads-step, count-law, last-law}
+use Rattle.catalogue.proofs.Judged.{fieldsHad, known, bytes-small, fields-same, line-judged}
 use Rattle.catalogue.proofs.Faults.{fieldsIn, after-law}
 
 -- tables put together from their lists
@@ -49,10 +51,7 @@ tablesFrom vs os ss ms fs cs ns ts ls hs =
       highs = hs;
     }
 
--- what the code gets of a line's bytes and of the tables
-abbrev pub fieldsHad : (bytes : List ℕ) → Fields
-fieldsHad f = fieldsAt (rowFor catalogues (byteAt f 0) .first) (rowFor catalogues (byteAt f 0) .second) (rowFor catalogues (byteAt f 0) .third) f
-
+-- what the code gets of the tables, and of a line's bytes: the version last read, and how many versions the line's module has
 abbrev pub lastHad : Tables → State → Last
 lastHad t s = lastIn (t .values) (t .owners) (t .marks) (s .versions)
 
@@ -74,6 +73,7 @@ pub record AtLine (text : List ℕ) (at number : ℕ) (s : State) (t : Tables) :
   pub rest : readFrom reader number u (linesOf (drop at text)) ≡ readFrom reader 1 start (linesOf text)
   pub reach : reachedFrom reader u (linesOf (drop at text)) ≡ reached text
 
+-- at the start of the text
 pub at-start : (text : List ℕ) → AtLine text 0 1 (stateOf start) noTables
 at-start text =
     record {
@@ -87,27 +87,35 @@ at-start text =
       reach = refl;
     }
 
--- the reading stops where the first line left is faulty
-module _ (text : List ℕ) (at number : ℕ) (s : State) (t : Tables) (h : AtLine text at number s t) where
+module _ {text : List ℕ} {at number : ℕ} {s : State} {t : Tables} (h : AtLine text at number s t) where
+  -- how far the reading came, if it goes no further
+  abbrev pub stopped : (number : ℕ) → Lines
+  stopped n = record { number = n; line = number; state = s; tables = t }
+
+  -- what is owed then, of the state and the tables
+  state-here : h .u ≡ reached text → s ≡ stateOf (reached text)
+  state-here e = h .told ∙ ap stateOf e
+
+  tables-here : h .u ≡ reached text → Holds t (reached text .sofar)
+  tables-here e = subst (λ (v : Reading). Holds t (v .sofar)) e (h .reads .tidy .holds)
+
+  -- the reading stops where the first line left is faulty
   stops : (n : ℕ) → n ≢ 0 → readFrom reader number (h .u) (linesOf (drop at text)) ≡ bad (fault n number) →
-      reachedFrom reader (h .u) (linesOf (drop at text)) ≡ h .u → LinesRead text (record { number = n; line = number; state = s; tables = t })
+      reachedFrom reader (h .u) (linesOf (drop at text)) ≡ h .u → LinesRead text (stopped n)
   stops n z e r =
       record {
-        state = h .told ∙ ap stateOf here;
-        tables = subst (λ (v : Reading). Holds t (v .sofar)) here (h .reads .tidy .holds);
+        state = state-here (sym r ∙ h .reach);
+        tables = tables-here (sym r ∙ h .reach);
         outcome = rw (ne-eqb n 0 z) (sym (h .rest) ∙ e);
       }
-    where
-      here : h .u ≡ reached text
-      here = sym r ∙ h .reach
 
   -- at the end of the text
-  pub end-stops : length text ≤ at → LinesRead text (record { number = 0; line = number; state = s; tables = t })
+  pub end-stops : length text ≤ at → LinesRead text (stopped 0)
   unfolding reachedFrom linesOf
   end-stops z =
       record {
-        state = h .told ∙ ap stateOf here;
-        tables = subst (λ (v : Reading). Holds t (v .sofar)) here (h .reads .tidy .holds);
+        state = state-here here;
+        tables = tables-here here;
         outcome = sym (h .rest) ∙ (ap (λ (ls : List Line). readFrom reader number (h .u) ls) none ∙ ap (λ (v : Reading). readFrom reader number v []) here);
       }
     where
@@ -117,14 +125,15 @@ module _ (text : List ℕ) (at number : ℕ) (s : State) (t : Tables) (h : AtLin
       here : h .u ≡ reached text
       here = sym (ap (λ (ls : List Line). reachedFrom reader (h .u) ls) none) ∙ h .reach
 
-  module _ (to : ℕ) (bytes : List ℕ) (size total : ℕ) (q : InLine text at to bytes size total) where
+  module _ {to : ℕ} {bytes : List ℕ} {size total : ℕ} (q : InLine text at to bytes size total) where
     -- at something wrong in the line
-    pub wrong-stops : pairAt text to ≡ Wrong → LinesRead text (record { number = 2; line = number; state = s; tables = t })
+    pub wrong-stops : pairAt text to ≡ Wrong → LinesRead text (stopped 2)
     wrong-stops e =
         let m = line-wrong text at to bytes size total q e in
         stops 2 (omega arith) (misshapen-read reader (h .u) number m) (misshapen-reached reader (h .u) m)
 
     module _ (e : pairAt text to ≡ LineFeed) where
+      -- the line that ends here, and those behind it
       whole : Line
       whole = line (q .digits) true
 
@@ -140,8 +149,7 @@ module _ (text : List ℕ) (at number : ℕ) (s : State) (t : Tables) (h : AtLin
           (line-judged text at to bytes size total q (h .u))
 
       -- at a faulty line
-      pub line-stops : found bytes size total s t ≢ 0 →
-          LinesRead text (record { number = found bytes size total s t; line = number; state = s; tables = t })
+      pub line-stops : found bytes size total s t ≢ 0 → LinesRead text (stopped (found bytes size total s t))
       unfolding readFrom reachedFrom
       line-stops z = stops (found bytes size total s t) z read reachs
         where
@@ -189,6 +197,7 @@ module _ (text : List ℕ) (at number : ℕ) (s : State) (t : Tables) (h : AtLin
           kind-known : digitsFor catalogues (kindOf (frameOf (q .digits))) ≢ 0
           kind-known = known text at to bytes size total q (h .u) (fits .kind) some
 
+          -- the state, the tables and the rest are those of the next line's start
           told : after s (fieldsHad bytes) ≡ stateOf next
           told = rw (h .told, fields) (sym (after-law limits (h .u) (frameOf (q .digits)) kind-known))
 
@@ -228,7 +237,8 @@ pub record Got (bytes : List ℕ) (s : State) (t : Tables) (row : Kind) (f : Fie
   pub last-is : z ≡ lastHad t s
   pub count-is : n ≡ getD (t .counts) (f .owner .0) 0
 
-module _ (bytes : List ℕ) (s : State) (t : Tables) (row : Kind) (f : Fields) (z : Last) (n : ℕ) (g : Got bytes s t row f z n) where
+-- so the fault that the code finds, its state and its tables are those that are spoken of above
+module _ {bytes : List ℕ} {s : State} {t : Tables} {row : Kind} {f : Fields} {z : Last} {n : ℕ} (g : Got bytes s t row f z n) where
   fields-had : f ≡ fieldsHad bytes
   fields-had = g .fields-are ∙ ap (λ (r : Kind). fieldsAt (r .first) (r .second) (r .third) bytes) (g .row-is)
 

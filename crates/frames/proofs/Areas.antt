@@ -1,4 +1,5 @@
--- A frame's line in an area: a store behind a run of stores is a longer run, up to the check byte and the line feed. Assumes nothing.
+-- A frame's line in an area: a store behind a run of stores is a longer run. A frame is written byte by byte (`nothing-yet`, `one-more`), and with
+-- the check byte and the line feed behind its bytes its text stands in the area (`finished`). Assumes nothing.
 use mathlib.Core.Path.{_≡_, refl, _∙_, ap}
 use mathlib.Core.List.{List, [], _∷_, _++_}
 use Prim.Native.Nat.{ℕ, suc, _+_, _*_, _-_, _/_, _%_, _≤_, _<_}
@@ -16,7 +17,7 @@ sets-append : (l : List ℕ) (i : ℕ) (xs ys : List ℕ) {j : ℕ} → j ≡ i 
 sets-append l i [] ys e = ap (λ (k : ℕ). sets l k ys) (omega arith)
 sets-append l i (a ∷ xs) ys e = sets-append (set l i a) (suc i) xs ys (omega arith)
 
--- HEX AND SUMS of a list with one more byte
+-- HEX of two lists, one behind the other
 hex-append : (xs ys : List ℕ) → hexOf (xs ++ ys) ≡ hexOf xs ++ hexOf ys
 unfolding hexOf
 hex-append [] ys = refl
@@ -43,11 +44,13 @@ pub record Written (old : List ℕ) (at : ℕ) (bytes : List ℕ) (area : List �
   pub stored : area ≡ sets old at (hexOf (take i bytes))
 
 module _ (old : List ℕ) (at : ℕ) (bytes : List ℕ) where
+  -- at first nothing is written
   pub nothing-yet : Written old at bytes old 0 0 at
   unfolding hexOf sum
   nothing-yet = record { within = omega arith; ends = omega arith; sums = refl; size = refl; stored = refl }
 
   module _ {area next : List ℕ} {total i end : ℕ} (w : Written old at bytes area total i end) where
+    -- the next byte, written behind the others
     pub one-more : i < length bytes → next ≡ sets area end (hexOf (getD bytes i 0 ∷ [])) →
         Written old at bytes next ((total + getD bytes i 0) % 256) (i + 1) (end + 2)
     one-more h e =
@@ -65,6 +68,7 @@ module _ (old : List ℕ) (at : ℕ) (bytes : List ℕ) where
         taken : take (i + 1) bytes ≡ take i bytes ++ (b ∷ [])
         taken = rw add-one (take-suc bytes i 0 h)
 
+    -- the check byte and the line feed, written behind all of them
     pub finished : length bytes ≤ i → next ≡ sets area end (hexOf ((256 - total) % 256 ∷ [])) →
         set next (end + 2) lineFeed ≡ sets old at (frameText bytes)
     unfolding frameText

@@ -1,23 +1,26 @@
--- What a reader knows inside a line: the digits read so far, as the bytes of a frame, their number and their sum. The last lemmas say what follows
--- when the line ends, or when something wrong stands there. They hold for every reader. Assumes nothing.
-use mathlib.Core.Path.{_≡_, refl, sym, _∙_, ap, subst}
+-- What a reader knows inside a line: the digits read so far, as the bytes of a frame, their number and their sum (`InLine`). It holds where a line
+-- begins (`line-start`) and after one more byte (`line-byte`); a line feed ends the line with the digits read (`line-feed`), and something wrong makes
+-- the line misshapen (`line-wrong`). This is the same for every reader. Assumes nothing.
+use mathlib.Core.Path.{_≡_, refl, sym, _∙_, ap}
 use mathlib.Core.Logic.{_⊎_, inl, inr, ⊎-elim, _≢_}
-use mathlib.Core.Bool.{true}
+use mathlib.Core.Bool.{Bool, true, false}
 use mathlib.Core.List.{List, [], _∷_, _++_}
-use Prim.Native.Nat.{ℕ, zero, suc, _+_, _*_, _-_, _%_, _≤_, _<_}
+use Prim.Native.Nat.{ℕ, zero, suc, _+_, _*_, _%_, _≤_, _<_}
 use native.Mathlib.Omega.{arith}
-use native.Mathlib.Decide.{decLt}
-use lib.ListN.{length, getD, drop, set, replicate, length-append, length-set, length-replicate, List·getD-eq-default, List·getD-append}
+use lib.Dec.{ltb}
+use lib.ListN.{length, getD, drop, set, replicate, length-append, length-set, List·getD-eq-default, List·getD-append}
 use lib.Seq.{getD-set-same, getD-set-other, getD-append-seam}
+use borrow.Author.Tests.{ltb-true, ltb-false}
 use Rattle.rules.specs.Lists.{all, sum}
 use Rattle.rules.specs.Lines.{line, linesOf, isDigit}
-use Rattle.rules.specs.Frames.{frameOf, byteAt, digitOf}
-use Rattle.rules.proofs.Lists.{same-or-not}
+use Rattle.rules.specs.Frames.{frameOf, byteAt}
+use Rattle.rules.proofs.Lists.{same-or-not, longer, length-last}
 use Rattle.rules.proofs.Written.{sum-last}
 use Rattle.frames.specs.Digits.{pairAt}
 use Rattle.frames.specs.declared.digits.Pair.the-variants.{Byte, LineFeed, Wrong}
 use Rattle.frames.proofs.Pairs.{IsByte}
-use Rattle.frames.proofs.Lines.{withBytes, byte-stands, byte-more, feed-lines, feed-more, digits-more, frame-append, frame-size, Misshapen, wrong-first}
+use Rattle.frames.proofs.Lines.{withBytes, byte-stands, byte-more, feed-lines, feed-more, digits-more, frame-append, frame-size}
+use Rattle.frames.proofs.Lines.{Misshapen, wrong-first}
 
 -- the longest frame
 abbrev pub longest : ℕ
@@ -37,28 +40,24 @@ pub record InLine (text : List ℕ) (from at : ℕ) (frame : List ℕ) (bytes to
   pub begun : (at < length text) ⊎ (0 < length digits)
   pub lines : linesOf (drop from text) ≡ withBytes digits (linesOf (drop at text))
 
-getD-zeros : (n i : ℕ) → byteAt (replicate n 0) i ≡ 0
+-- LISTS: zeros are 0 everywhere
+pub getD-zeros : (n i : ℕ) → getD {A = ℕ} (replicate n 0) i 0 ≡ 0
 getD-zeros zero i = refl
 getD-zeros (suc n) zero = refl
 getD-zeros (suc n) (suc i) = getD-zeros n i
 
--- past its last element a list with one more is as it was
-past-last : (g : List ℕ) (b i : ℕ) → i ≢ length g → byteAt g i ≡ byteAt (g ++ (b ∷ [])) i
-past-last g b i n = ⊎-elim inside outside (decided (decLt i (length g)))
+-- a list with one more element is as it was but at the new place
+pub longer-other : {A : Type 0} (d : A) (xs : List A) (x : A) (i : ℕ) → i ≢ length xs → getD (longer xs x) i d ≡ getD xs i d
+longer-other {A} d xs x i h = go (ltb i (length xs)) refl
   where
-    decided : Dec (i < length g) → (i < length g) ⊎ (¬ (i < length g))
-    decided (yes p) = inl p
-    decided (no p) = inr p
+    go : (b : Bool) → ltb i (length xs) ≡ b → getD (longer xs x) i d ≡ getD xs i d
+    go true e = List·getD-append xs (x ∷ []) d i (ltb-true _ _ e)
+    go false e =
+        let g : length xs ≤ i = ltb-false _ _ e in
+        let k : length (longer xs x) ≤ i = omega (arith, length-last xs x) in
+        List·getD-eq-default (longer xs x) d k ∙ sym (List·getD-eq-default xs d g)
 
-    inside : i < length g → byteAt g i ≡ byteAt (g ++ (b ∷ [])) i
-    inside h = sym (List·getD-append g (b ∷ []) 0 i h)
-
-    outside : ¬ (i < length g) → byteAt g i ≡ byteAt (g ++ (b ∷ [])) i
-    outside h =
-        List·getD-eq-default g 0 (omega arith) ∙
-        sym (List·getD-eq-default (g ++ (b ∷ [])) 0 (simp length-append (omega arith)))
-
--- the first bytes of a frame with one more
+-- FRAMES: one more byte, put into the frame, is one more of its bytes
 longer-frame : (f g : List ℕ) (b i : ℕ) → length f ≡ longest → i < longest → byteAt f i ≡ byteAt g i →
     byteAt (set f (length g) b) i ≡ byteAt (g ++ (b ∷ [])) i
 longer-frame f g b i l h e = ⊎-elim new old (same-or-not i (length g))
@@ -67,9 +66,10 @@ longer-frame f g b i l h e = ⊎-elim new old (same-or-not i (length g))
     new p = rw p (getD-set-same f (length g) b 0 (omega arith) ∙ sym (getD-append-seam g b [] 0))
 
     old : i ≢ length g → byteAt (set f (length g) b) i ≡ byteAt (g ++ (b ∷ [])) i
-    old p = getD-set-other f (length g) i b 0 p ∙ (e ∙ past-last g b i p)
+    old p = getD-set-other f (length g) i b 0 p ∙ (e ∙ sym (longer-other 0 g b i p))
 
 module _ (text : List ℕ) where
+  -- where a line begins nothing of it is read
   pub line-start : (at : ℕ) → at < length text → InLine text at at (replicate longest 0) 0 0
   unfolding withBytes frameOf all sum
   line-start at h =
@@ -91,6 +91,7 @@ module _ (text : List ℕ) where
       zeros i = getD-zeros longest i
 
   module _ (from at : ℕ) (frame : List ℕ) (bytes total : ℕ) (q : InLine text from at frame bytes total) where
+    -- one more byte
     pub line-byte : (b : ℕ) → pairAt text at ≡ Byte b → InLine text from (at + 2) (set frame bytes b) (bytes + 1) ((total + b) % 256)
     line-byte b e =
         record {
@@ -125,9 +126,11 @@ module _ (text : List ℕ) where
         total-more : (total + b) % 256 ≡ sum (frameOf more) % 256
         total-more = rw frame-longer (omega (arith, q .total-is, sum-last (frameOf (q .digits)) b))
 
+    -- the line's end
     pub line-feed : pairAt text at ≡ LineFeed → (at < length text) × (linesOf (drop from text) ≡ line (q .digits) true ∷ linesOf (drop (at + 1) text))
     line-feed e = (feed-lines text at e .0, q .lines ∙ feed-more text at (q .digits) e)
 
+    -- something wrong in the line
     pub line-wrong : pairAt text at ≡ Wrong → Misshapen (linesOf (drop from text))
     line-wrong e = rw (q .lines) (wrong-first text at (q .digits) e (q .even) (q .begun))
 

@@ -1,4 +1,5 @@
--- The lines of a text, read pair by pair: each pair goes on with the line there, ends it or makes it a faulty one. Assumes nothing.
+-- The lines of a text, read pair by pair: each pair goes on with the line there (`byte-more`), ends it (`feed-more`) or makes it a faulty one
+-- (`wrong-first`). Such a line is refused by every reader (`misshapen-read`), in the state that it was met in (`misshapen-reached`). Assumes nothing.
 use mathlib.Core.Path.{_≡_, refl, sym, _∙_, ap}
 use mathlib.Core.Logic.{_⊎_, ⊎-elim, _≢_}
 use mathlib.Core.Bool.{Bool, true, false, _&&_, and-false}
@@ -34,6 +35,7 @@ unfoldable pub withBytes : List ℕ → List Line → List Line
 withBytes [] ls = ls
 withBytes (c ∷ cs) ls = withByte c (withBytes cs ls)
 
+-- more characters in front are put in front one by one
 pub bytes-append : (ds es : List ℕ) (ls : List Line) → withBytes (ds ++ es) ls ≡ withBytes ds (withBytes es ls)
 unfolding withBytes
 bytes-append [] es ls = refl
@@ -48,6 +50,7 @@ abbrev behind : List Line → List Line
 behind [] = []
 behind (l ∷ ls) = ls
 
+-- characters in front make the first line longer
 bytes-line : (ds : List ℕ) (ls : List Line) → 0 < length ds →
     withBytes ds ls ≡ line (ds ++ front ls .digits) (front ls .isEnded) ∷ behind ls
 unfolding withBytes withByte
@@ -56,6 +59,7 @@ bytes-line (d ∷ []) [] h = refl
 bytes-line (d ∷ []) (l ∷ ls) h = refl
 bytes-line (d ∷ e ∷ ds) ls h = rw (bytes-line (e ∷ ds) ls (omega arith))
 
+-- in front of a line feed they are a line of their own
 pub bytes-feed : (ds : List ℕ) (ls : List Line) → withBytes ds (line [] true ∷ ls) ≡ line ds true ∷ ls
 unfolding withBytes withByte
 bytes-feed [] ls = refl
@@ -74,9 +78,11 @@ char-more t i ds h n =
     ap (withBytes ds) (char-lines t i h n) ∙ sym (bytes-append ds (getD t i 0 ∷ []) (linesOf (drop (i + 1) t)))
 
 module _ (t : List ℕ) (i : ℕ) where
+  -- a byte is told where two digits stand
   pub byte-stands : (b : ℕ) → pairAt t i ≡ Byte b → IsByte t i b
   byte-stands b e = rw e at (stands t i)
 
+  -- which go in front of the line behind them
   pub byte-lines : (b : ℕ) → pairAt t i ≡ Byte b →
       linesOf (drop i t) ≡ withBytes (getD t i 0 ∷ getD t (i + 1) 0 ∷ []) (linesOf (drop (i + 2) t))
   unfolding withBytes
@@ -90,6 +96,7 @@ module _ (t : List ℕ) (i : ℕ) where
           let two : i + 1 + 1 ≡ i + 2 = omega arith in
           rw two at (char-lines t (i + 1) (omega (arith, s .within)) (no-feed _ (s .second)))
 
+  -- a line feed is an empty line's end
   pub feed-lines : pairAt t i ≡ LineFeed → (i < length t) × (linesOf (drop i t) ≡ line [] true ∷ linesOf (drop (i + 1) t))
   unfolding linesOf
   feed-lines e = feed (rw e at (stands t i))
@@ -105,12 +112,13 @@ module _ (t : List ℕ) (i : ℕ) where
   pub feed-more : (ds : List ℕ) → pairAt t i ≡ LineFeed → withBytes ds (linesOf (drop i t)) ≡ line ds true ∷ linesOf (drop (i + 1) t)
   feed-more ds e = ap (withBytes ds) (feed-lines e .1) ∙ bytes-feed ds (linesOf (drop (i + 1) t))
 
+  -- with the two more digits all are digits
   pub digits-more : (ds : List ℕ) (b : ℕ) → pairAt t i ≡ Byte b → all isDigit ds ≡ true →
       all isDigit (ds ++ (getD t i 0 ∷ getD t (i + 1) 0 ∷ [])) ≡ true
   unfolding all
   digits-more ds b e h = rw (all-append isDigit ds _, h, byte-stands b e .first, byte-stands b e .second)
 
--- THE BYTES of a line's digits
+-- THE BYTES of a line's digits: two more digits are one more byte, and a byte is two digits
 pub frame-append : (ds : List ℕ) (c d : ℕ) → length ds % 2 ≡ 0 → frameOf (ds ++ (c ∷ d ∷ [])) ≡ frameOf ds ++ ((16 * digitOf c + digitOf d) ∷ [])
 unfolding frameOf
 frame-append [] c d h = refl
@@ -200,7 +208,7 @@ wrong-first t i ds e even some = go (rw e at (stands t i))
         rw (char-more t i ds (omega arith) (no-feed c p))
         (⊎-elim (λ x. odd x h) (λ x. at-no-digit t (i + 1) more (omega arith) x q) (same-or-not (getD t (i + 1) 0) lineFeed))
 
--- and is refused, in the state that it was met in
+-- and is refused with fault 2, in the state that it was met in
 module _ {S : Type 0} (r : Reader S) (s : S) where
   misshapen-fault : (l : Line) → shapeFits l ≡ false → lineFault r s l ≡ 2
   unfolding lineFault

@@ -1,4 +1,5 @@
--- Pairs of digits: the pair at a place of a text tells what stands there, and what stands there tells the pair. Assumes nothing.
+-- Pairs of digits: the pair at a place of a text tells what stands there (`stands`), and what stands there tells the pair (`told`), also by what the
+-- two characters are worth as digits (`first-wrong` to `both-right`). Assumes nothing.
 use mathlib.Core.Path.{_≡_, refl, ap}
 use mathlib.Core.Logic.{⊎-elim, _≢_}
 use mathlib.Core.Bool.{Bool, true, false, _&&_, cond}
@@ -16,7 +17,7 @@ use Rattle.frames.specs.Digits.{digitOr, pairOf, pairAt}
 use Rattle.frames.specs.declared.digits.Pair.{Pair}
 use Rattle.frames.specs.declared.digits.Pair.the-variants.{Byte, LineFeed, Wrong}
 
--- DIGITS
+-- DIGITS: a digit is no character below 48, and worth less than 16
 pub digit-range : (c : ℕ) → isDigit c ≡ true → (48 ≤ c) × (digitOf c < 16)
 digit-range c e = ⊎-elim low high (or-cases (isIn 48 57 c) _ e)
   where
@@ -35,7 +36,7 @@ digit-range c e = ⊎-elim low high (or-cases (isIn 48 57 c) _ e)
 pub no-feed : (c : ℕ) → isDigit c ≡ true → c ≢ lineFeed
 no-feed c e p = let h = digit-range c e .0 in omega arith
 
--- a value of 16 or more is no digit's, and one below 16 is the digit's
+-- what a character is worth: 16 if it is no digit, and otherwise the digit
 digit-wrong : (c : ℕ) {r : ℕ} → r ≡ digitOr c → 16 ≤ r → isDigit c ≡ false
 digit-wrong c {r} e h = go (isDigit c) refl e
   where
@@ -65,6 +66,7 @@ pub data IsWrong (t : List ℕ) (i : ℕ) : Type 0 where
   alone : i + 1 ≡ length t → isDigit (getD t i 0) ≡ true → IsWrong t i
   no-second : i + 2 ≤ length t → isDigit (getD t i 0) ≡ true → isDigit (getD t (i + 1) 0) ≡ false → IsWrong t i
 
+-- what stands where a pair is told
 abbrev pub Stands : List ℕ → ℕ → Pair → Type 0
 Stands t i (Byte b) = IsByte t i b
 Stands t i LineFeed = (i < length t) × (getD t i 0 ≡ lineFeed)

@@ -16,9 +16,8 @@ use Rattle.catalogue.specs.Reading.{LinesRead}
 use Rattle.catalogue.specs.declared.tables.Tables.{Tables}
 use Rattle.catalogue.specs.declared.frame.State.{State}
 use Rattle.catalogue.specs.declared.frame.Last.{Last}
-use Rattle.catalogue.specs.declared.reading.Lines.{Lines}
 use Rattle.catalogue.proofs.Kept.{Sizes}
-use Rattle.catalogue.proofs.Steps.{AtLine, Got, tablesFrom, found, at-start, end-stops, wrong-stops, line-stops, line-kept}
+use Rattle.catalogue.proofs.Steps.{AtLine, Got, tablesFrom, found, stopped, at-start, end-stops, wrong-stops, line-stops, line-kept}
 use Rattle.catalogue.proofs.Steps.{found-told, after-told, tables-told}
 use Rattle.catalogue.proofs.reading.read_lines.Statement.{statement}
 use Rattle.catalogue.proofs.reading.read_lines.Tie as tie
@@ -57,10 +56,6 @@ module _ (c : AtLines) where
   tables =
       tablesFrom (c .lines .values) (c .lines .owners) (c .lines .starts) (c .lines .marks) (c .lines .firsts) (c .lines .counts)
       (c .lines .needies) (c .lines .targets) (c .lines .lows) (c .lines .highs)
-
-  -- what is returned if the reading ends here, with the fault of that number
-  abbrev stopped : (number : ℕ) → Lines
-  stopped n = record { number = n; line = c .lines .line; state = c .lines .s; tables = tables }
 
   at-line : AtLine text (c .lines .at) (c .lines .line) (c .lines .s) tables
   at-line = c .lines .inv .1
@@ -168,7 +163,7 @@ module _ (c : AfterJudged) where
       (line-of-judged .lines .s) (tables line-of-judged)
 
   same-fault : c .line-fault .result ≡ found-here
-  same-fault = c .line-fault .ensures ∙ found-told _ _ _ _ _ _ _ got _ _
+  same-fault = c .line-fault .ensures ∙ found-told got _ _
 
   -- a module has 16 versions at most, and a version 16 needs
   count-fits : count-of-judged .half-at .result ≤ 16
@@ -376,10 +371,10 @@ lines-again c =
     let version-kept = version-of-state c .keep-version .ensures in
     let module-kept = module-of-state c .keep-module .ensures in
     let need-kept = need-of-state c .keep-need .ensures in
-    let same-tables = tables-told _ _ _ _ _ _ _ (got judged) version-kept module-kept need-kept in
-    let same-state = c .after .ensures ∙ after-told _ _ _ _ _ _ _ (got judged) in
+    let same-tables = tables-told (got judged) version-kept module-kept need-kept in
+    let same-state = c .after .ensures ∙ after-told (got judged) in
     let no-fault = sym (same-fault judged) ∙ good in
-    let next = line-kept _ _ _ _ _ (at-line l) _ _ _ _ (in-line d) (feed-there (feed-of-judged judged)) no-fault in (
+    let next = line-kept (at-line l) (in-line d) (feed-there (feed-of-judged judged)) no-fault in (
       good,
       subst₂ (λ (v : State) (t : Tables). AtLine (text l) (d .digits .at + 1) (l .lines .line + 1) v t) (sym same-state) (sym same-tables) next,
     )
@@ -388,21 +383,21 @@ lines-again c =
 returns : tie.Need-returns Inv-digits μ-digits Inv-lines μ-lines
 returns c =
     let l = c .before in
-    subst (λ (n : ℕ). LinesRead (text l) (stopped l n)) (sym (l .lines .inv .0)) (end-stops _ _ _ _ _ (at-line l) (c .lines-test .left))
+    subst (λ (n : ℕ). LinesRead (text l) (stopped (at-line l) n)) (sym (l .lines .inv .0)) (end-stops (at-line l) (c .lines-test .left))
 
 returns-2 : tie.Need-returns-2 Inv-digits μ-digits Inv-lines μ-lines
 returns-2 c =
     let d = c .before .before .before in
     let wrong-there = sym (c .before .before .pair-at .ensures) ∙ c .enum-told2 .given .1 in
-    wrong-stops _ _ _ _ _ (at-line (line-of-digits d)) _ _ _ _ (in-line d) wrong-there
+    wrong-stops (at-line (line-of-digits d)) (in-line d) wrong-there
 
 returns-3 : tie.Need-returns-3 Inv-digits μ-digits Inv-lines μ-lines
 returns-3 c =
     let judged = c .before in
     let d = digits-of-judged judged in
     let l = line-of-judged judged in
-    let stops = line-stops _ _ _ _ _ (at-line l) _ _ _ _ (in-line d) (feed-there (feed-of-judged judged)) (λ e. c .if1 .taken (same-fault judged ∙ e)) in
-    subst (λ (n : ℕ). LinesRead (text l) (stopped l n)) (sym (same-fault judged)) stops
+    let stops = line-stops (at-line l) (in-line d) (feed-there (feed-of-judged judged)) (λ e. c .if1 .taken (same-fault judged ∙ e)) in
+    subst (λ (n : ℕ). LinesRead (text l) (stopped (at-line l) n)) (sym (same-fault judged)) stops
 
 pub read-lines-spec : {M : Type 1} → statement M
 read-lines-spec =

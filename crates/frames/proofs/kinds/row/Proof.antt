@@ -16,6 +16,7 @@ use Rattle.frames.specs.declared.kinds.Kind.{Kind}
 use Rattle.frames.proofs.kinds.row.Statement.{statement}
 use Rattle.frames.proofs.kinds.row.Tie as tie
 
+-- the row that stands for no row
 abbrev none : Rules.Kind
 none = record { text = 0; kind = 0; digits = 0; first = 0; second = 0; third = 0 }
 
@@ -33,12 +34,14 @@ module _ (rows : List Rules.Kind) (t k i : ℕ) where
   step h = rw (add-one, drop-cons rows i none)
 
   module _ (x : Kind) (is : x ≡ rowOf here) (h : i < length rows) (same : Same rows t k i) where
+    -- it is the row looked for, or it is passed by
     found : (eqb (x .text) t && eqb (x .kind) k) ≡ true → x ≡ rowOf (rowIn rows t k)
     found e = is ∙ ap rowOf (sym (same ∙ step h ∙ cond-true here _ (rw is at e)))
 
     passed : (eqb (x .text) t && eqb (x .kind) k) ≡ false → Same rows t k (i + 1)
     passed e = same ∙ step h ∙ cond-false here _ (rw is at e)
 
+  -- past the last row there is none
   none-left : length rows ≤ i → Same rows t k i → rowIn rows t k ≡ rowIn [] t k
   none-left h same = same ∙ ap (λ (rs : List Rules.Kind). rowIn rs t k) (drop-of-length-le rows h)
 
