@@ -85,7 +85,8 @@ fn version_fault(s: State, last: Last, count: u16, f: Fields) -> u8
     let v = f.low;
     let o = last.owner;
     let w = last.value;
-    let rises = (s.versions == 0) | (o.0 < m.0) | ((o.0 == m.0) & (w.0 < v.0));
+    let newer = w.is_older(v);
+    let rises = (s.versions == 0) | (o.0 < m.0) | ((o.0 == m.0) & newer);
     checks(
         (s.stands == 1) & rises,
         (m.0 < s.modules) & !f.topped,

@@ -2,6 +2,7 @@
 ghost use mathlib.Core.Path.{_≡_};
 ghost use Prim.Native.Nat.{_-_, _≤_};
 ghost use lib.ListN.{length};
+ghost use Rattle.rules.specs.Catalogue.{limits};
 ghost use Rattle.catalogue.specs.Reading.{LinesRead, lineFaultOf, withFault, finished, nothingRead, CatalogueRead};
 use crate::access;
 use crate::frame;
@@ -37,7 +38,7 @@ fn line_fault(
     count: u16,
     f: frame::Fields,
 ) -> u8
-    requires { ⌜ bytes ≤ 32768 ⌝ }
+    requires { ⌜ bytes ≤ limits .bytes ⌝ }
     ensures { λ r. ⌜ r ≡ lineFaultOf bytes sum row s last count f ⌝ }
 {
     if bytes < 2 {
@@ -54,7 +55,7 @@ fn line_fault(
 
 // Lines of digits, a frame a line. The digit loop is left at the first character that can't stand, and the reading at the first faulty line.
 pub fn read_lines(text: &[u8]) -> Lines
-    requires { ⌜ length (now text) ≤ 32768 ⌝ }
+    requires { ⌜ length (now text) ≤ limits .bytes ⌝ }
     ensures { λ r. ⌜ LinesRead (now (text .entry)) r ⌝ }
 {
     let mut values = [0u32; VERSIONS as usize];

@@ -1,5 +1,6 @@
 // Module numbers, places and versions: numbers of different kinds, which can't be swapped by accident.
 ghost use mathlib.Core.Path.{_≡_};
+ghost use lib.Dec.{ltb};
 ghost use Rattle.rules.specs.Catalogue.{isWithin};
 ghost use Rattle.frames.specs.Numbers.{orderOf};
 
@@ -35,6 +36,17 @@ impl Version {
             return Order::Same;
         }
         Order::Newer
+    }
+
+    pub fn is_older(self, other: Version) -> bool
+        ensures { λ r. ⌜ r ≡ ltb (self .0) (other .0) ⌝ }
+    {
+        let order = self.compare(other);
+        match order {
+            Order::Older => true,
+            Order::Same => false,
+            Order::Newer => false,
+        }
     }
 
     // In the range from low up to, not including, high.
