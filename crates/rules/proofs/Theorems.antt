@@ -14,11 +14,14 @@ use Rattle.rules.specs.Lists.{ahead, downFrom, countOf}
 use Rattle.rules.specs.Catalogue.{Catalogue, versionAtPlace, isOf, isOlder, WellFormed}
 use Rattle.rules.specs.Selection.{Selection, rootOnly, nextModules, chosenAt}
 use Rattle.rules.specs.Search.{Tries, IsTries, newestFirst, search, best, trialsOf, isTriedFirst, isNewer, Certified}
-use Rattle.rules.specs.Sheet.{Incompatibility, noIncompatibility, isFull, isInside, blocksAt, Blocks, Entry, derived, lastLine, isRefuting, mostLines, sheetOf}
-use Rattle.rules.specs.Promises.{SomeValid, ReadsWellFormed, NewestFirstTries, FindsValid, PicksValid, FactsHold, SheetsTell, BlockingRefutes, AcceptsExactly}
+use Rattle.rules.specs.Sheet.{Incompatibility, noIncompatibility, isFull, isInside, blocksAt, Blocks}
+use Rattle.rules.specs.Sheet.{Entry, derived, lastLine, isRefuting, mostLines, sheetOf}
+use Rattle.rules.specs.Promises.{SomeValid, ReadsWellFormed, NewestFirstTries, FindsValid}
+use Rattle.rules.specs.Promises.{PicksValid, FactsHold, SheetsTell, BlockingRefutes, AcceptsExactly}
 use Rattle.rules.specs.Promises.{FindsFirst, PicksBest, FindsCertified, OrderWhole, NextIsLowest, TextTells}
 use Rattle.rules.specs.Samples.{Samples}
-use Rattle.rules.proofs.Lists.{and-fst, and-snd, and-both, or-cases, true-or-false, count-keep, count-downFrom, ahead-greater, mem-among, not-both, below-all}
+use Rattle.rules.proofs.Lists.{and-fst, and-snd, and-both, or-cases, true-or-false}
+use Rattle.rules.proofs.Lists.{count-keep, count-downFrom, ahead-greater, mem-among, not-both, below-all}
 use Rattle.rules.proofs.Lists.{same-false, keep-least, mem-below}
 use Rattle.rules.proofs.Selections.{of-parts, Next, next-first, AbsentOrAt, absent-or-at, Valid, valid-parts, valid-state, parts-valid}
 use Rattle.rules.proofs.Partials.{root-partial}

@@ -12,7 +12,8 @@ use Rattle.rules.specs.Lines.{fine}
 use Rattle.rules.specs.Catalogue.{Catalogue, Limits, CarriedLimits, Carried, WellFormed, textFault, catalogueOf}
 use Rattle.rules.specs.Selection.{Selection, chosenAt, isValid, isAsked, nextModules, Choice, orderOf, selectionText}
 use Rattle.rules.specs.Search.{Tries, IsTries, newestFirst, search, best, trialsOf, isAheadBy, isTriedFirst, isNewer, Refuted, Certified}
-use Rattle.rules.specs.Sheet.{Incompatibility, Blocks, Entry, entriesFit, derived, noIncompatibility, isInside, isRefuting, mostLines, sheetFault, sheetText, sheetOf}
+use Rattle.rules.specs.Sheet.{Incompatibility, Blocks, Entry, entriesFit, derived, noIncompatibility}
+use Rattle.rules.specs.Sheet.{isInside, isRefuting, mostLines, sheetFault, sheetText, sheetOf}
 
 abbrev pub SomeValid : Catalogue → Type 0
 SomeValid c = (s : Selection) × (isValid c s ≡ true)

@@ -15,12 +15,13 @@ checks-requires c κs = search needs
 
 returns : tie.Need-returns
 returns c =
-    let s = c .before .before .before .before .before .before .before .before .before .before .before .before .before .before .before .args .s in
-    let o = c .before .before .before .before .before .before .before .before .before .before .before .before .before .before .before .args .last .owner .0 in
-    let m = c .before .before .before .before .before .before .before .before .before .before .before .before .before .before .before .args .f .owner .0 in
+    let given = c .before .before .before .before .before .before .before .before .before .before .before .before .before .before .before .args in
+    let s = given .s in
+    let o = given .last .owner .0 in
+    let m = given .f .owner .0 in
     c .checks .ensures ∙
     ap (λ (newer : Bool). checks (eqb (s .stands) 1 && (eqb (s .versions) 0 || ltb o m || (eqb o m && newer)))
-    (ltb m (s .modules) && not (c .before .before .before .before .before .before .before .before .before .before .before .before .before .before .before .args .f .topped)) (ltb (c .before .before .before .before .before .before .before .before .before .before .before .before .before .before .before .args .count) 16))
+    (ltb m (s .modules) && not (given .f .topped)) (ltb (given .count) 16))
     (c .before .before .before .before .before .before .before .before .before .before .is-older .ensures)
 
 pub version-fault-spec : {M : Type 1} → statement M

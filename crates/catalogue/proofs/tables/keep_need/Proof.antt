@@ -43,19 +43,20 @@ same-length-5 : tie.Need-same-length-5
 same-length-5 c = search needs
 
 returns : tie.Need-returns
-returns c = (
-  c .before .before .before .before .before .before .before .before .before .before .before .before .before .before .before .before .before .before .put-half .ensures,
-  (
-    c .before .before .before .before .before .before .before .before .before .before .before .before .before .before .put-half2 .ensures,
-    (
-      c .before .before .before .before .before .before .before .before .before .before .put-half3 .ensures,
+returns c =
+    let words = c .before .before .before .before .before .before in
+    let targets = words .before .before .before .before in
+    let needies = targets .before .before .before .before in
+    let marks = needies .before .before .before .before in (
+      marks .put-half .ensures,
       (
-        c .before .before .before .before .before .before .put-word .ensures,
-        c .before .before .put-word2 .ensures,
+        needies .put-half2 .ensures,
+        (
+          targets .put-half3 .ensures,
+          (words .put-word .ensures, c .before .before .put-word2 .ensures),
+        ),
       ),
-    ),
-  ),
-)
+    )
 
 pub keep-need-spec : {M : Type 1} → statement M
 keep-need-spec =

@@ -37,21 +37,27 @@ enum-told c = search needs
 
 returns : tie.Need-returns
 unfolding isFirst
-returns c = told (c .before .before .before .args .self .0) (c .before .before .before .args .other .0) Older (c .before .before .compare .ensures) (c .enum-told .given .1)
+returns c =
+    told (c .before .before .before .args .self .0) (c .before .before .before .args .other .0) Older
+    (c .before .before .compare .ensures) (c .enum-told .given .1)
 
 enum-told-2 : tie.Need-enum-told-2
 enum-told-2 c = search needs
 
 returns-2 : tie.Need-returns-2
 unfolding isFirst
-returns-2 c = told (c .before .before .before .args .self .0) (c .before .before .before .args .other .0) Same (c .before .before .compare .ensures) (c .enum-told2 .given .1)
+returns-2 c =
+    told (c .before .before .before .args .self .0) (c .before .before .before .args .other .0) Same
+    (c .before .before .compare .ensures) (c .enum-told2 .given .1)
 
 enum-told-3 : tie.Need-enum-told-3
 enum-told-3 c = search needs
 
 returns-3 : tie.Need-returns-3
 unfolding isFirst
-returns-3 c = told (c .before .before .before .args .self .0) (c .before .before .before .args .other .0) Newer (c .before .before .compare .ensures) (c .enum-told3 .given .1)
+returns-3 c =
+    told (c .before .before .before .args .self .0) (c .before .before .before .args .other .0) Newer
+    (c .before .before .compare .ensures) (c .enum-told3 .given .1)
 
 pub is-older-spec : {M : Type 1} → statement M
 is-older-spec = tie.close (tie.spec compare-requires enum-told enum-told-2 enum-told-3 returns returns-2 returns-3)
