@@ -1,0 +1,45 @@
+-- `search::wanted::next_of` meets its contract. The loop's invariant: going on from here gives what the whole run of modules gives.
+use Prim.Native.Nat.{_-_}
+use native.Mathlib.Omega.{arith}
+use borrow.Author.Needs.{needs}
+use Rattle.search.specs.Wanted.{wantedAt}
+use Rattle.search.proofs.Folds.{Folded, none-done, one-done, all-done}
+use Rattle.search.proofs.wanted.next_of.Statement.{statement}
+use Rattle.search.proofs.wanted.next_of.Tie as tie
+
+abbrev Inv-loop : tie.InvT-loop
+Inv-loop starts marks targets chosen modules w₀ k₀ w k = Folded (wantedAt starts marks targets chosen) w₀ 0 modules w k
+
+abbrev μ-loop : tie.MeasureT-loop
+μ-loop starts marks targets chosen modules w₀ k₀ w k = modules - k
+
+loop-holds : tie.Need-loop-holds Inv-loop μ-loop
+loop-holds c = none-done _ _ _ _
+
+wanted-of-module-requires : tie.Need-wanted-of-module-requires Inv-loop μ-loop
+wanted-of-module-requires c κs = search needs
+
+add-k : tie.Need-add-k Inv-loop μ-loop
+add-k c = search needs
+
+loop-less : tie.Need-loop-less Inv-loop μ-loop
+loop-less c = search needs
+
+loop-again : tie.Need-loop-again Inv-loop μ-loop
+loop-again c = one-done _ _ _ _ (c .before .before .loop .inv) _ (omega arith) (c .wanted-of-module .ensures)
+
+returns : tie.Need-returns Inv-loop μ-loop
+returns c = all-done _ _ _ _ (c .before .loop .inv) (omega arith)
+
+pub next-of-spec : {M : Type 1} → statement M
+next-of-spec =
+    tie.close
+    (tie.spec
+    Inv-loop
+    μ-loop
+    loop-holds
+    wanted-of-module-requires
+    add-k
+    loop-less
+    loop-again
+    returns)

@@ -1,0 +1,4 @@
+-- What the search's functions owe, over lists as the tables have them.
+pub mod Choosing
+pub mod Scan
+pub mod Wanted

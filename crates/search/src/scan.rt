@@ -1,0 +1,163 @@
+// Which need makes a trial fail at once: the needs of chosen versions and of the version tried, by module, each against the tables.
+ghost use mathlib.Core.Path.{_≡_};
+ghost use Prim.Native.Nat.{_+_};
+ghost use Rattle.search.specs.Scan.{leavesOutIn, barsIn, firstIn, scanIn, overIn};
+use catalogue::access;
+use catalogue::tables;
+use frames::numbers::ModuleNo;
+use frames::numbers::Place;
+use frames::numbers::Version;
+
+// What stands for no need and for no module.
+pub const NONE: u32 = 4294967295;
+
+// Need k leaves out a module's state (0: absent, else one more than the place of its version), where a version is chosen.
+pub fn leaves_out<'a>(
+    values: &'a [u32],
+    lows: &'a [u32],
+    highs: &'a [u32],
+    k: u32,
+    state: u32,
+) -> bool
+    ensures { λ r. ⌜ r ≡ leavesOutIn (now (values .entry)) (now (lows .entry)) (now (highs .entry)) k state ⌝ }
+{
+    if state == 0 {
+        return false;
+    }
+    let at = k as usize;
+    let v = Version(access::word_at(values, (state - 1) as usize));
+    let low = Version(access::word_at(lows, at));
+    let high = Version(access::word_at(highs, at));
+    !v.is_within(low, high)
+}
+
+// Need k bars the trial of module m at a state: m's own need against what is chosen, or another's need that names m.
+pub fn bars<'a>(
+    values: &'a [u32],
+    targets: &'a [u16],
+    lows: &'a [u32],
+    highs: &'a [u32],
+    chosen: &'a [u16],
+    own: bool,
+    m: ModuleNo,
+    state: u32,
+    k: u32,
+) -> bool
+    ensures { λ r. ⌜ r ≡ barsIn (now (values .entry)) (now (targets .entry)) (now (lows .entry)) (now (highs .entry)) (now (chosen .entry))
+        own (m .0) state k ⌝ }
+{
+    let target = access::half_at(targets, k as usize);
+    if own {
+        let met = access::half_at(chosen, target as usize);
+        return leaves_out(values, lows, highs, k, met as u32);
+    }
+    let left = leaves_out(values, lows, highs, k, state);
+    (target == m.0) & left
+}
+
+// The first need of a run that bars the trial.
+pub fn first_bar<'a>(
+    values: &'a [u32],
+    targets: &'a [u16],
+    lows: &'a [u32],
+    highs: &'a [u32],
+    chosen: &'a [u16],
+    own: bool,
+    m: ModuleNo,
+    state: u32,
+    first: u16,
+    count: u16,
+) -> u32
+    ensures { λ r. ⌜ r ≡ firstIn
+        (barsIn (now (values .entry)) (now (targets .entry)) (now (lows .entry)) (now (highs .entry)) (now (chosen .entry)) own (m .0) state) first count ⌝ }
+{
+    let mut k = first as u32;
+    let end = first as u32 + count as u32;
+    while k < end {
+        let hit = bars(values, targets, lows, highs, chosen, own, m, state, k);
+        if hit {
+            return k;
+        }
+        k += 1;
+    }
+    NONE
+}
+
+// The first need of module k that bars the trial of module m at a state.
+pub fn scan_module<'a>(
+    values: &'a [u32],
+    starts: &'a [u16],
+    marks: &'a [u16],
+    targets: &'a [u16],
+    lows: &'a [u32],
+    highs: &'a [u32],
+    chosen: &'a [u16],
+    m: ModuleNo,
+    state: u32,
+    k: u16,
+) -> u32
+    ensures { λ r. ⌜ r ≡ scanIn (now (values .entry)) (now (starts .entry)) (now (marks .entry)) (now (targets .entry)) (now (lows .entry))
+        (now (highs .entry)) (now (chosen .entry)) (m .0) state k ⌝ }
+{
+    let own = k == m.0;
+    let other = access::half_at(chosen, k as usize);
+    let held = if own { state } else { other as u32 };
+    if held == 0 {
+        return NONE;
+    }
+    let at = (held - 1) as usize;
+    let first = access::half_at(starts, at);
+    let mark = access::half_at(marks, at);
+    let count = tables::one_less(mark);
+    first_bar(
+        values,
+        targets,
+        lows,
+        highs,
+        chosen,
+        own,
+        m,
+        state,
+        first,
+        count,
+    )
+}
+
+// The first need that bars the trial of module m at a place, over all modules in turn.
+pub fn barring<'a>(
+    values: &'a [u32],
+    starts: &'a [u16],
+    marks: &'a [u16],
+    targets: &'a [u16],
+    lows: &'a [u32],
+    highs: &'a [u32],
+    chosen: &'a [u16],
+    modules: u16,
+    m: ModuleNo,
+    p: Place,
+) -> u32
+    ensures { λ r. ⌜ r ≡ overIn (scanIn (now (values .entry)) (now (starts .entry)) (now (marks .entry)) (now (targets .entry)) (now (lows .entry))
+        (now (highs .entry)) (now (chosen .entry)) (m .0) (p .0 + 1)) 0 modules ⌝ }
+{
+    let state = p.0 as u32 + 1;
+    let mut k: u16 = 0;
+    while k < modules {
+        let hit = scan_module(
+            values,
+            starts,
+            marks,
+            targets,
+            lows,
+            highs,
+            chosen,
+            m,
+            state,
+            k,
+        );
+        if hit != NONE {
+            return hit;
+        }
+        k += 1;
+    }
+    NONE
+}

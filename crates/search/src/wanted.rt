@@ -1,0 +1,92 @@
+// The next module to choose, and the need that asks for it: the lowest module that a chosen version needs and that is not chosen yet.
+ghost use mathlib.Core.Path.{_≡_};
+ghost use Rattle.search.specs.Wanted.{betterIn, foldIn, wantedAt, wantedIn};
+use crate::scan::NONE;
+use catalogue::access;
+use catalogue::tables;
+
+// A module to choose, and the number of the first need that asks for it; both NONE where nothing is wanted.
+pub struct Wanted {
+    pub owner: u32,
+    pub need: u32,
+}
+
+// Need k, if it asks for a module that is not chosen and lower than the one wanted so far.
+pub fn better<'a>(targets: &'a [u16], chosen: &'a [u16], k: u32, b: Wanted) -> Wanted
+    ensures { λ r. ⌜ r ≡ betterIn (now (targets .entry)) (now (chosen .entry)) k b ⌝ }
+{
+    let target = access::half_at(targets, k as usize);
+    let state = access::half_at(chosen, target as usize);
+    let owner = target as u32;
+    if (state == 0) & (owner < b.owner) {
+        return Wanted {
+            owner: owner,
+            need: k,
+        };
+    }
+    b
+}
+
+// What is wanted after the needs of a version: so many from the first on.
+pub fn wanted_of_version<'a>(
+    targets: &'a [u16],
+    chosen: &'a [u16],
+    first: u16,
+    count: u16,
+    b: Wanted,
+) -> Wanted
+    ensures { λ r. ⌜ r ≡ foldIn (betterIn (now (targets .entry)) (now (chosen .entry))) b first count ⌝ }
+{
+    let mut w = b;
+    let mut k = first as u32;
+    let end = k + (count as u32);
+    while k < end {
+        w = better(targets, chosen, k, w);
+        k += 1;
+    }
+    w
+}
+
+// What is wanted after the needs of the version that module k is chosen at, if it is.
+pub fn wanted_of_module<'a>(
+    starts: &'a [u16],
+    marks: &'a [u16],
+    targets: &'a [u16],
+    chosen: &'a [u16],
+    k: u16,
+    b: Wanted,
+) -> Wanted
+    ensures { λ r. ⌜ r ≡ wantedAt (now (starts .entry)) (now (marks .entry)) (now (targets .entry)) (now (chosen .entry)) k b ⌝ }
+{
+    let state = access::half_at(chosen, k as usize);
+    if state == 0 {
+        return b;
+    }
+    let at = (state - 1) as usize;
+    let first = access::half_at(starts, at);
+    let mark = access::half_at(marks, at);
+    let count = tables::one_less(mark);
+    wanted_of_version(targets, chosen, first, count, b)
+}
+
+// What is wanted after the needs of every module's chosen version.
+pub fn next_of<'a>(
+    starts: &'a [u16],
+    marks: &'a [u16],
+    targets: &'a [u16],
+    chosen: &'a [u16],
+    modules: u16,
+) -> Wanted
+    ensures { λ r. ⌜ r ≡ wantedIn (now (starts .entry)) (now (marks .entry)) (now (targets .entry)) (now (chosen .entry)) modules ⌝ }
+{
+    let mut w = Wanted {
+        owner: NONE,
+        need: NONE,
+    };
+    let mut k: u16 = 0;
+    while k < modules {
+        w = wanted_of_module(starts, marks, targets, chosen, k, w);
+        k += 1;
+    }
+    w
+}
