@@ -2,23 +2,22 @@
 -- (read-whole). Assumes nothing.
 use mathlib.Core.Path.{_≡_, refl, sym, _∙_, ap, subst₂}
 use mathlib.Core.Bool.{Bool, true, false, cond}
-use mathlib.Core.List.{List, [], _∷_}
+use mathlib.Core.List.{List}
 use Prim.Native.Nat.{ℕ, _-_, _≤_, _<_}
 use lib.Dec.{ltb, eqb}
 use lib.ListN.{length, getD}
 use borrow.Author.Tests.{le-ltb, lt-ltb}
 use Rattle.rules.specs.Lines.{fault, unless, fine, Line, linesOf}
 use Rattle.rules.specs.Frames.{Reader, Read, bad, got, readFrom, readText, faultOf, readOr}
-use Rattle.rules.specs.Catalogue.{Catalogue, Reading, placesOf, rootFits, limits, textFault, catalogueOf}
+use Rattle.rules.specs.Catalogue.{Catalogue, Reading, rootFits, limits, textFault, catalogueOf}
 use Rattle.rules.proofs.Readers.{Run, stop, step, fine-text}
 use Rattle.frames.specs.Reached.{reachedFrom}
-use Rattle.catalogue.specs.declared.frame.State.{State}
-use Rattle.catalogue.specs.declared.tables.Tables.{Tables}
+use Rattle.store.specs.declared.frame.State.{State}
 use Rattle.catalogue.specs.declared.reading.Lines.{Lines}
-use Rattle.catalogue.specs.Frame.{stateOf}
-use Rattle.catalogue.specs.Tables.{Holds}
+use Rattle.store.specs.Frame.{stateOf}
+use Rattle.store.specs.Tables.{Holds}
 use Rattle.catalogue.specs.Reading.{start, reader, reached, LinesRead, withFault, finished, nothingRead, reachedIn, CatalogueRead}
-use Rattle.catalogue.proofs.Kept.{count-holds, tidy-start}
+use Rattle.store.proofs.Kept.{count-holds, tidy-start}
 
 -- the three tests after the lines: a fault so far, an end, one version of the root
 finishBy : Lines → (good ended rooted : Bool) → Lines

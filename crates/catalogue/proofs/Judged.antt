@@ -17,10 +17,10 @@ use Rattle.rules.proofs.Written.{hex-written, byte-small}
 use Rattle.frames.specs.Kinds.{rowFor}
 use Rattle.frames.proofs.Lines.{frame-size, shape-size}
 use Rattle.frames.proofs.InLine.{longest, InLine}
-use Rattle.catalogue.specs.declared.frame.Fields.{Fields}
-use Rattle.catalogue.specs.Frame.{stateOf, lastOf, fieldsAt, frameFault}
+use Rattle.store.specs.declared.frame.Fields.{Fields}
+use Rattle.store.specs.Frame.{stateOf, lastOf, fieldsAt, frameFault}
 use Rattle.catalogue.specs.Reading.{lineFaultOf, reader}
-use Rattle.catalogue.proofs.Faults.{Known, known-kind, a-head, a-version, a-need, a-caret, an-end, fieldsIn, fault-law, bytes-fields}
+use Rattle.store.proofs.Faults.{Known, known-kind, a-head, a-version, a-need, a-caret, an-end, fieldsIn, fault-law, bytes-fields}
 
 -- equal tests in order, and what follows them where they pass
 in-order : (a b d : Bool) (x y : ℕ) → (a ≡ true → d ≡ true → x ≡ y) →

@@ -23,17 +23,17 @@ use Rattle.frames.specs.declared.digits.Pair.the-variants.{LineFeed, Wrong}
 use Rattle.frames.proofs.Lines.{shape-size, misshapen-read, misshapen-reached}
 use Rattle.frames.proofs.InLine.{InLine, line-feed, line-wrong}
 use Rattle.frames.specs.declared.kinds.Kind.{Kind}
-use Rattle.catalogue.specs.declared.frame.Fields.{Fields}
-use Rattle.catalogue.specs.declared.frame.State.{State}
-use Rattle.catalogue.specs.declared.frame.Last.{Last}
-use Rattle.catalogue.specs.declared.tables.Tables.{Tables}
+use Rattle.store.specs.declared.frame.Fields.{Fields}
+use Rattle.store.specs.declared.frame.State.{State}
+use Rattle.store.specs.declared.frame.Last.{Last}
+use Rattle.store.specs.declared.tables.Tables.{Tables}
 use Rattle.catalogue.specs.declared.reading.Lines.{Lines}
-use Rattle.catalogue.specs.Frame.{stateOf, lastOf, fieldsAt, after}
-use Rattle.catalogue.specs.Tables.{keptAt, isVersion, isNeed, Holds, kept, lastIn}
-use Rattle.catalogue.specs.Reading.{lineFaultOf, start, reader, reached, LinesRead, noTables}
-use Rattle.catalogue.proofs.Kept.{Reads, reads-start, reads-step, count-law, last-law}
+use Rattle.store.specs.Frame.{stateOf, lastOf, fieldsAt, after}
+use Rattle.store.specs.Tables.{noTables, keptAt, isVersion, isNeed, Holds, kept, lastIn}
+use Rattle.catalogue.specs.Reading.{lineFaultOf, start, reader, reached, LinesRead}
+use Rattle.store.proofs.Kept.{Reads, reads-start, reads-step, count-law, last-law}
 use Rattle.catalogue.proofs.Judged.{fieldsHad, known, bytes-small, fields-same, line-judged}
-use Rattle.catalogue.proofs.Faults.{fieldsIn, after-law}
+use Rattle.store.proofs.Faults.{fieldsIn, after-law}
 
 -- tables put together from their lists
 abbrev pub tablesFrom : (values owners starts marks firsts counts needies targets lows highs : List ℕ) → Tables

@@ -1,4 +1,2 @@
 -- What the reader of catalogues owes, over the definitions of the rules.
-pub mod Tables
-pub mod Frame
 pub mod Reading

@@ -1,22 +1,21 @@
 -- How far the reading of a text comes. Assumes nothing: these are definitions.
 use mathlib.Core.Path.{_≡_}
-use mathlib.Core.Bool.{Bool, cond}
-use mathlib.Core.List.{List, [], _∷_}
+use mathlib.Core.Bool.{cond}
+use mathlib.Core.List.{List, []}
 use Prim.Native.Nat.{ℕ, _*_, _-_}
 use lib.Dec.{leb, ltb, eqb}
-use lib.ListN.{length, getD, replicate}
+use lib.ListN.{length, getD}
 use Rattle.rules.specs.Lines.{fault, orElse, unless, linesOf}
 use Rattle.rules.specs.Frames.{Reader, bad, readFrom}
 use Rattle.rules.specs.Catalogue.{Reading, reading, noCatalogue, limits, catalogueReader, textFault}
 use Rattle.frames.specs.Reached.{reachedFrom}
 use Rattle.frames.specs.declared.kinds.Kind.{Kind}
-use Rattle.catalogue.specs.declared.frame.Fields.{Fields}
-use Rattle.catalogue.specs.declared.frame.State.{State}
-use Rattle.catalogue.specs.declared.frame.Last.{Last}
+use Rattle.store.specs.declared.frame.Fields.{Fields}
+use Rattle.store.specs.declared.frame.State.{State}
+use Rattle.store.specs.declared.frame.Last.{Last}
 use Rattle.catalogue.specs.declared.reading.Lines.{Lines}
-use Rattle.catalogue.specs.declared.tables.Tables.{Tables}
-use Rattle.catalogue.specs.Frame.{stateOf, frameFault}
-use Rattle.catalogue.specs.Tables.{Holds}
+use Rattle.store.specs.Frame.{stateOf, frameFault}
+use Rattle.store.specs.Tables.{noTables, Holds}
 
 -- 2, 3 and 4 by the bytes of a line and their sum, and then what is wrong with the frame
 unfoldable pub lineFaultOf : (bytes sum : ℕ) → Kind → State → Last → (count : ℕ) → Fields → ℕ
@@ -51,21 +50,6 @@ finished r =
     (cond (eqb (getD (r .tables .counts) 0 0) 1) (withFault r 0 0) (withFault r 8 (r .line - 1)))
     (withFault r 5 (r .line)))
     r
-
-abbrev pub noTables : Tables
-noTables =
-    record {
-      values = replicate 512 0;
-      owners = replicate 512 0;
-      starts = replicate 512 0;
-      marks = replicate 512 0;
-      firsts = replicate 32 0;
-      counts = replicate 32 0;
-      needies = replicate 1024 0;
-      targets = replicate 1024 0;
-      lows = replicate 1024 0;
-      highs = replicate 1024 0;
-    }
 
 abbrev pub nothingRead : (number : ℕ) → Lines
 nothingRead n = record { number = n; line = 0; state = stateOf start; tables = noTables }

@@ -1,7 +1,2 @@
-// Catalogues: a text read into tables, refused by number and line as the rules say, and access to the tables.
-pub mod access;
-pub mod frame;
-pub mod limits;
-pub mod lookup;
+// Catalogues: a text read into tables, and refused by number and line as the rules say.
 pub mod reading;
-pub mod tables;

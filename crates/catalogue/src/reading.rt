@@ -4,21 +4,21 @@ ghost use Prim.Native.Nat.{_-_, _≤_};
 ghost use lib.ListN.{length};
 ghost use Rattle.rules.specs.Catalogue.{limits};
 ghost use Rattle.catalogue.specs.Reading.{LinesRead, lineFaultOf, withFault, finished, nothingRead, CatalogueRead};
-use crate::access;
-use crate::frame;
-use crate::frame::State;
-use crate::limits::BYTES;
-use crate::limits::MODULES;
-use crate::limits::NEEDS;
-use crate::limits::VERSIONS;
-use crate::tables;
-use crate::tables::Tables;
-use crate::tables::UNUSED;
 use frames::digits::Pair;
 use frames::digits::pair_at;
 use frames::fields::LONGEST;
 use frames::fields::put;
 use frames::kinds;
+use store::access;
+use store::frame;
+use store::frame::State;
+use store::limits::BYTES;
+use store::limits::MODULES;
+use store::limits::NEEDS;
+use store::limits::VERSIONS;
+use store::tables;
+use store::tables::Tables;
+use store::tables::UNUSED;
 
 // How far the reading came: the number of the first fault (0: none) and its line (one past the last), the state and the tables there.
 pub struct Lines {

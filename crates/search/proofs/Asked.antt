@@ -18,8 +18,8 @@ use Rattle.rules.specs.Sheet.{asking}
 use Rattle.rules.proofs.Lists.{true-or-false, first-mem, below-mem}
 use Rattle.rules.proofs.Selections.{Next, suc-not-zero, asked-mem, mem-isAsked, isAsked-mem, next-first, next-none}
 use Rattle.rules.proofs.Theorems.{next-is-lowest}
-use Rattle.catalogue.specs.Tables.{Holds}
-use Rattle.catalogue.specs.declared.tables.Tables.{Tables}
+use Rattle.store.specs.Tables.{Holds}
+use Rattle.store.specs.declared.tables.Tables.{Tables}
 use Rattle.search.specs.Scan.{noNumber}
 use Rattle.search.specs.Wanted.{wantedBy, noneWanted, betterIn, foldIn, wantedState, wantedAt, wantedIn}
 use Rattle.search.specs.declared.wanted.Wanted.{Wanted}

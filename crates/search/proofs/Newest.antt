@@ -6,10 +6,10 @@ use Prim.Native.Nat.{ℕ, zero, suc, _+_}
 use native.Mathlib.Omega.{arith}
 use lib.ListN.{length, getD}
 use Rattle.rules.specs.Lists.{keep, upFrom, below, downFrom}
-use Rattle.rules.specs.Catalogue.{Catalogue, isOf, placesOf}
+use Rattle.rules.specs.Catalogue.{Catalogue, isOf}
 use Rattle.rules.specs.Search.{newestFirst}
-use Rattle.catalogue.specs.Tables.{Holds}
-use Rattle.catalogue.specs.declared.tables.Tables.{Tables}
+use Rattle.store.specs.Tables.{Holds}
+use Rattle.store.specs.declared.tables.Tables.{Tables}
 use Rattle.search.specs.Choosing.{falling}
 
 -- a list from its end

@@ -3,9 +3,9 @@ ghost use mathlib.Core.Path.{_≡_};
 ghost use Prim.Native.Nat.{suc, _<_};
 ghost use lib.ListN.{replicate, set};
 ghost use Rattle.search.specs.Choosing.{choices};
-use catalogue::limits::MODULES;
 use frames::numbers::ModuleNo;
 use frames::numbers::Place;
+use store::limits::MODULES;
 
 pub struct Choices {
     pub chosen: [u16; MODULES as usize],

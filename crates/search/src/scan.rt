@@ -2,11 +2,11 @@
 ghost use mathlib.Core.Path.{_≡_};
 ghost use Prim.Native.Nat.{_+_};
 ghost use Rattle.search.specs.Scan.{leavesOutIn, barsIn, firstIn, scanIn, overIn};
-use catalogue::access;
-use catalogue::tables;
 use frames::numbers::ModuleNo;
 use frames::numbers::Place;
 use frames::numbers::Version;
+use store::access;
+use store::tables;
 
 // What stands for no need and for no module.
 pub const NONE: u32 = 4294967295;

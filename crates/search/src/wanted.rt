@@ -2,8 +2,8 @@
 ghost use mathlib.Core.Path.{_≡_};
 ghost use Rattle.search.specs.Wanted.{betterIn, foldIn, wantedAt, wantedIn};
 use crate::scan::NONE;
-use catalogue::access;
-use catalogue::tables;
+use store::access;
+use store::tables;
 
 // A module to choose, and the number of the first need that asks for it; both NONE where nothing is wanted.
 pub struct Wanted {

@@ -13,10 +13,10 @@ use Rattle.frames.specs.declared.digits.Pair.the-variants.{Byte, LineFeed}
 use Rattle.frames.proofs.Lines.{byte-stands}
 use Rattle.frames.proofs.InLine.{InLine, line-start, line-byte, line-feed, line-size}
 use Rattle.catalogue.specs.Reading.{LinesRead}
-use Rattle.catalogue.specs.declared.tables.Tables.{Tables}
-use Rattle.catalogue.specs.declared.frame.State.{State}
-use Rattle.catalogue.specs.declared.frame.Last.{Last}
-use Rattle.catalogue.proofs.Kept.{Sizes}
+use Rattle.store.specs.declared.tables.Tables.{Tables}
+use Rattle.store.specs.declared.frame.State.{State}
+use Rattle.store.specs.declared.frame.Last.{Last}
+use Rattle.store.proofs.Kept.{Sizes}
 use Rattle.catalogue.proofs.Steps.{AtLine, Got, tablesFrom, found, stopped, at-start, end-stops, wrong-stops, line-stops, line-kept}
 use Rattle.catalogue.proofs.Steps.{found-told, after-told, tables-told}
 use Rattle.catalogue.proofs.reading.read_lines.Statement.{statement}

@@ -1,6 +1,5 @@
 -- Past the last module nothing is stored, and `set` changes nothing there. Assumes nothing.
 use mathlib.Core.Path.{_≡_, sym, ap}
-use mathlib.Core.List.{List}
 use Prim.Native.Nat.{ℕ}
 use native.Mathlib.Omega.{arith}
 use native.Mathlib.Numerals.{add-one}
@@ -27,7 +26,9 @@ element-write-self : tie.Need-element-write-self
 element-write-self c = search needs
 
 returns : tie.Need-returns
-returns c = ap (λ (x : ℕ). choices (set (c .before .before .before .args .t1 .chosen) (c .before .before .before .args .m .0) x)) (add-one (c .before .before .before .args .p .0))
+returns c =
+    let a = c .before .before .before .args in
+    ap (λ (x : ℕ). choices (set (a .t1 .chosen) (a .m .0) x)) (add-one (a .p .0))
 
 returns-2 : tie.Need-returns-2
 returns-2 c =

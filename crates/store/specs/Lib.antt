@@ -1,0 +1,3 @@
+-- What the tables owe, over the definitions of the rules.
+pub mod Frame
+pub mod Tables
