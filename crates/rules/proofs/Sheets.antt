@@ -93,7 +93,7 @@ module _ (c : Catalogue) (p : Selection) (m i : ℕ) (w : WellFormed c) (g : Par
           (need-target c k x _ (λ y. w .others k (a .isNeed) (sym z ∙ y)) z ∙ ap not (outside .2))
 
 -- what bars a choice is a need
-barring-need : (c : Catalogue) (p : Selection) (m i k : ℕ) → barring c p m i ≡ some k → k < length (c .needs)
+pub barring-need : (c : Catalogue) (p : Selection) (m i k : ℕ) → barring c p m i ≡ some k → k < length (c .needs)
 unfolding barring
 barring-need c p m i k e =
     asked-mem c (withChoice p m i) (first-mem (bars c p m i) (asked c (withChoice p m i)) k e .0) .isNeed
@@ -324,8 +324,13 @@ module _ (c : Catalogue) (p : Selection) (m : ℕ) (l : m < length p) (z : m < c
 
 -- THE SEARCH and its lines
 module _ (n : ℕ) (c : Catalogue) (t : Tries) (p : Selection) (at : ℕ) where
+  -- with nothing next a search leaves no lines
+  pub lines-done : nextModules c p ≡ [] → searchLines (suc n) c t p at ≡ []
+  unfolding searchLines
+  lines-done e = rw (e, searchLines)
+
   -- the lines of a search are those of its next module's place
-  lines-next : (m : ℕ) (ms : List ℕ) → nextModules c p ≡ m ∷ ms →
+  pub lines-next : (m : ℕ) (ms : List ℕ) → nextModules c p ≡ m ∷ ms →
       searchLines (suc n) c t p at ≡ cites (Option·getD (asking c p m) 0) ∷ triesLines c (searchLines n c t) p m at (suc at) (t m)
   unfolding searchLines
   lines-next m ms e = rw (e, searchLines)

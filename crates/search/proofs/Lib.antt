@@ -4,3 +4,6 @@ pub mod Scans
 pub mod Barring
 pub mod Folds
 pub mod Asked
+pub mod Found
+pub mod SheetLines
+pub mod Whole

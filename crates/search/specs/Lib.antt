@@ -2,3 +2,4 @@
 pub mod Choosing
 pub mod Scan
 pub mod Wanted
+pub mod Finding
