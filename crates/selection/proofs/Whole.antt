@@ -1,0 +1,80 @@
+-- The whole text: how many lines it has, how long it is, and that its three parts, stored one behind the other, make it. Assumes nothing.
+use mathlib.Core.Path.{_≡_, refl, _∙_, ap}
+use mathlib.Core.Bool.{Bool, true, false, cond}
+use mathlib.Core.List.{List, [], _∷_, _++_, flatMap}
+use Prim.Native.Nat.{ℕ, zero, suc, _+_, _*_, _%_, _≤_}
+use native.Mathlib.Omega.{arith}
+use lib.ListN.{length, length-append}
+use lib.Seq.{sets}
+use Rattle.rules.specs.Lists.{keep, upFrom, below}
+use Rattle.rules.proofs.Written.{frame-length}
+use Rattle.selection.specs.Written.{isSettled, settledIn, lineIn, headOf, endLine, textIn}
+use Rattle.selection.proofs.Turns.{sets-append}
+
+-- what is kept of a list is no longer than the list
+kept-length : (f : ℕ → Bool) (xs : List ℕ) → length (keep f xs) ≤ length xs
+unfolding keep
+kept-length f [] = omega arith
+kept-length f (x ∷ xs) = go (f x) (kept-length f xs)
+  where
+    go : (b : Bool) → length (keep f xs) ≤ length xs → length (cond b (x ∷ keep f xs) (keep f xs)) ≤ suc (length xs)
+    go true l = omega arith
+    go false l = omega arith
+
+-- a run of n numbers has n of them
+run-length : (i n : ℕ) → length (upFrom i n) ≡ n
+unfolding upFrom
+run-length i zero = refl
+run-length i (suc n) = ap suc (run-length (suc i) n)
+
+-- of n modules no more than n have a version chosen
+pub settled-few : (chosen : List ℕ) (n : ℕ) → length (settledIn chosen n) ≤ n
+settled-few chosen n = let l = kept-length (isSettled chosen) (below n) in let e = run-length 0 n in omega arith
+
+module _ (vs ch : List ℕ) where
+  pub line-length : (m : ℕ) → length (lineIn vs ch m) ≡ 13
+  line-length m = frame-length _
+
+  lines-length : (ms : List ℕ) → length (flatMap (lineIn vs ch) ms) ≡ 13 * length ms
+  unfolding flatMap
+  lines-length [] = refl
+  lines-length (m ∷ ms) =
+      let e = line-length m in
+      let f = lines-length ms in
+      rw (length-append (lineIn vs ch m) (flatMap (lineIn vs ch) ms)) (omega arith)
+
+  module _ (n : ℕ) where
+    text-length : length (textIn vs ch n) ≡ 12 + 13 * length (settledIn ch n)
+    unfolding textIn
+    text-length =
+        let head : length (headOf (length (settledIn ch n))) ≡ 7 = frame-length _ in
+        let last : length endLine ≡ 5 = frame-length _ in
+        let ls = lines-length (settledIn ch n) in
+        rw (length-append (headOf (length (settledIn ch n)) ++ flatMap (lineIn vs ch) (settledIn ch n)) endLine)
+        (rw (length-append (headOf (length (settledIn ch n))) (flatMap (lineIn vs ch) (settledIn ch n))) (omega arith))
+
+    -- head, lines and end, as the calls say where they are stored
+    pub text-stored : (old : List ℕ) {headed lined ended : List ℕ} {count start end r : ℕ} → count ≡ length (settledIn ch n) → start ≡ 7 →
+        headed ≡ sets old 0 (headOf count) → end ≡ start + 13 * length (settledIn ch n) →
+        lined ≡ sets headed start (flatMap (lineIn vs ch) (settledIn ch n)) → r ≡ end + 5 → ended ≡ sets lined end endLine →
+        (r ≡ length (textIn vs ch n)) × (ended ≡ sets old 0 (textIn vs ch n))
+    unfolding textIn
+    text-stored old {headed} {lined} {ended} {count} {start} {end} {r} c s h e l z x =
+        (omega (arith, text-length), x ∙ rw (l, h, c) (ap (λ (area : List ℕ). sets area end endLine) behind-head ∙ behind-lines))
+      where
+        head : List ℕ
+        head = headOf (length (settledIn ch n))
+
+        lines : List ℕ
+        lines = flatMap (lineIn vs ch) (settledIn ch n)
+
+        head-length : length head ≡ 7
+        head-length = frame-length (17 ∷ length (settledIn ch n) % 256 ∷ [])
+
+        behind-head : sets (sets old 0 head) start lines ≡ sets old 0 (head ++ lines)
+        behind-head = sets-append old 0 head lines (omega (arith, head-length))
+
+        behind-lines : sets (sets old 0 (head ++ lines)) end endLine ≡ sets old 0 (head ++ lines ++ endLine)
+        behind-lines =
+            sets-append old 0 (head ++ lines) endLine
+            (omega (arith, length-append head lines, head-length, lines-length (settledIn ch n)))
