@@ -13,7 +13,7 @@ use Rattle.rules.specs.Frames.{digitByte, hexOf, checked, frameText}
 use Rattle.rules.proofs.Written.{hex-length, sum-last}
 
 -- A RUN OF STORES behind another is one run
-sets-append : (l : List ℕ) (i : ℕ) (xs ys : List ℕ) {j : ℕ} → j ≡ i + length xs → sets (sets l i xs) j ys ≡ sets l i (xs ++ ys)
+pub sets-append : (l : List ℕ) (i : ℕ) (xs ys : List ℕ) {j : ℕ} → j ≡ i + length xs → sets (sets l i xs) j ys ≡ sets l i (xs ++ ys)
 sets-append l i [] ys e = ap (λ (k : ℕ). sets l k ys) (omega arith)
 sets-append l i (a ∷ xs) ys e = sets-append (set l i a) (suc i) xs ys (omega arith)
 

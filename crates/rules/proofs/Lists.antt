@@ -358,3 +358,17 @@ module _ {A : Type 0} (d : A) (xs : List A) (x : A) where
 
       next : i < length xs → R (getD (longer xs x) i d) x
       next m = rw (same m) (new i m)
+
+-- numbers from `i` up are as many as asked for
+pub length-upFrom : (i n : ℕ) → length (upFrom i n) ≡ n
+unfolding upFrom
+length-upFrom i zero = refl
+length-upFrom i (suc n) = ap suc (length-upFrom (suc i) n)
+
+-- one more number, at the end
+pub upFrom-last : (i n : ℕ) → upFrom i (suc n) ≡ longer (upFrom i n) (i + n)
+unfolding upFrom
+upFrom-last i zero = let e : i ≡ i + 0 = omega arith in ap (λ (k : ℕ). k ∷ []) e
+upFrom-last i (suc n) =
+    let e : suc i + n ≡ i + suc n = omega arith in
+    ap (λ (l : List ℕ). i ∷ l) (upFrom-last (suc i) n ∙ ap (λ (k : ℕ). longer (upFrom (suc i) n) k) e)

@@ -8,6 +8,7 @@ use lib.ListN.{length, getD}
 use Rattle.rules.specs.Lists.{keep, upFrom, below, downFrom}
 use Rattle.rules.specs.Catalogue.{Catalogue, isOf}
 use Rattle.rules.specs.Search.{newestFirst}
+use Rattle.rules.proofs.Lists.{upFrom-last}
 use Rattle.store.specs.Tables.{Holds}
 use Rattle.store.specs.declared.tables.Tables.{Tables}
 use Rattle.search.specs.Choosing.{falling}
@@ -21,12 +22,6 @@ backwards-last : (xs : List ℕ) (y : ℕ) → backwards (xs ++ (y ∷ [])) ≡ 
 unfolding backwards
 backwards-last [] y = refl
 backwards-last (x ∷ xs) y = rw (backwards-last xs y)
-
--- a run by its last number
-run-last : (i n : ℕ) → upFrom i (suc n) ≡ upFrom i n ++ ((i + n) ∷ [])
-unfolding upFrom
-run-last i zero = ap (λ (k : ℕ). k ∷ []) (omega arith)
-run-last i (suc n) = ap (λ (l : List ℕ). i ∷ l) (run-last (suc i) n ∙ ap (λ (k : ℕ). upFrom (suc i) n ++ (k ∷ [])) (omega arith))
 
 keep-last : (f : ℕ → Bool) (xs : List ℕ) (y : ℕ) → keep f (xs ++ (y ∷ [])) ≡ keep f xs ++ cond (f y) (y ∷ []) []
 unfolding keep
@@ -46,7 +41,7 @@ kept-backwards f (suc n) = go (f n) (kept-backwards f n) ∙ sym right
   where
     right : backwards (keep f (below (suc n))) ≡ backwards (keep f (below n) ++ cond (f n) (n ∷ []) [])
     right =
-        ap (λ (l : List ℕ). backwards (keep f l)) (run-last 0 n ∙ ap (λ (k : ℕ). below n ++ (k ∷ [])) (omega arith)) ∙
+        ap (λ (l : List ℕ). backwards (keep f l)) (upFrom-last 0 n ∙ ap (λ (k : ℕ). below n ++ (k ∷ [])) (omega arith)) ∙
         ap backwards (keep-last f (below n) n)
 
     go : (b : Bool) → keep f (downFrom n) ≡ backwards (keep f (below n)) →
@@ -57,7 +52,7 @@ kept-backwards f (suc n) = go (f n) (kept-backwards f n) ∙ sym right
 run-backwards : (i n : ℕ) → backwards (upFrom i n) ≡ falling i n
 unfolding upFrom falling backwards
 run-backwards i zero = refl
-run-backwards i (suc n) = ap backwards (run-last i n) ∙ (backwards-last (upFrom i n) (i + n) ∙ ap (λ (l : List ℕ). (i + n) ∷ l) (run-backwards i n))
+run-backwards i (suc n) = ap backwards (upFrom-last i n) ∙ (backwards-last (upFrom i n) (i + n) ∙ ap (λ (l : List ℕ). (i + n) ∷ l) (run-backwards i n))
 
 pub newest-run : (t : Tables) (c : Catalogue) (m : ℕ) → Holds t c → newestFirst c m ≡ falling (getD (t .firsts) m 0) (getD (t .counts) m 0)
 newest-run t c m h = kept-backwards (isOf c m) (length (c .versions)) ∙ (ap backwards (h .places m) ∙ run-backwards _ _)

@@ -1,14 +1,15 @@
 -- Turns of the loops over modules: what holds at each turn of a count and of the writing of lines, and the lemmas of the loops. Assumes nothing.
 use mathlib.Core.Path.{_≡_, refl, sym, _∙_, ap}
 use mathlib.Core.Bool.{Bool, true, false}
-use mathlib.Core.List.{List, [], _∷_, _++_, flatMap}
+use mathlib.Core.List.{List, [], _∷_, flatMap}
 use Prim.Native.Nat.{ℕ, suc, _+_, _*_, _-_, _≤_, _<_}
 use native.Mathlib.Omega.{arith}
 use native.Mathlib.Numerals.{add-one}
-use lib.ListN.{length, getD, set}
+use lib.ListN.{length, getD}
 use lib.Seq.{sets, length-sets}
 use borrow.Author.Tests.{lt-ltb, le-ltb}
 use Rattle.rules.specs.Lists.{keep, upFrom, below}
+use Rattle.frames.proofs.Areas.{sets-append}
 use Rattle.selection.specs.Written.{isSettled, lineOf, lineIn}
 
 -- those of the modules from k on that pass a test
@@ -70,11 +71,6 @@ module _ (f : ℕ → Bool) (n : ℕ) where
     all-counted l =
         let t : length (rest f n k) ≡ 0 = rw (rest-none f n k l) in
         omega (arith, h .total)
-
--- A RUN OF STORES behind another is one run
-pub sets-append : (l : List ℕ) (i : ℕ) (xs ys : List ℕ) {j : ℕ} → j ≡ i + length xs → sets (sets l i xs) j ys ≡ sets l i (xs ++ ys)
-sets-append l i [] ys e = ap (λ (k : ℕ). sets l k ys) (omega arith)
-sets-append l i (a ∷ xs) ys e = sets-append (set l i a) (suc i) xs ys (omega arith)
 
 -- WRITTEN SO FAR: with the lines of those from k on, each of 13 bytes, it makes all lines
 pub record Lines (f : ℕ → Bool) (line : ℕ → List ℕ) (old : List ℕ) (start n : ℕ) (area : List ℕ) (end k : ℕ) : Type 0 where

@@ -2,14 +2,15 @@
 use mathlib.Core.Path.{_≡_, refl, _∙_, ap}
 use mathlib.Core.Bool.{Bool, true, false, cond}
 use mathlib.Core.List.{List, [], _∷_, _++_, flatMap}
-use Prim.Native.Nat.{ℕ, zero, suc, _+_, _*_, _%_, _≤_}
+use Prim.Native.Nat.{ℕ, suc, _+_, _*_, _%_, _≤_}
 use native.Mathlib.Omega.{arith}
 use lib.ListN.{length, length-append}
 use lib.Seq.{sets}
-use Rattle.rules.specs.Lists.{keep, upFrom, below}
+use Rattle.rules.specs.Lists.{keep, below}
+use Rattle.rules.proofs.Lists.{length-upFrom}
 use Rattle.rules.proofs.Written.{frame-length}
+use Rattle.frames.proofs.Areas.{sets-append}
 use Rattle.selection.specs.Written.{isSettled, settledIn, lineIn, headOf, endLine, textIn}
-use Rattle.selection.proofs.Turns.{sets-append}
 
 -- what is kept of a list is no longer than the list
 kept-length : (f : ℕ → Bool) (xs : List ℕ) → length (keep f xs) ≤ length xs
@@ -21,15 +22,9 @@ kept-length f (x ∷ xs) = go (f x) (kept-length f xs)
     go true l = omega arith
     go false l = omega arith
 
--- a run of n numbers has n of them
-run-length : (i n : ℕ) → length (upFrom i n) ≡ n
-unfolding upFrom
-run-length i zero = refl
-run-length i (suc n) = ap suc (run-length (suc i) n)
-
 -- of n modules no more than n have a version chosen
 pub settled-few : (chosen : List ℕ) (n : ℕ) → length (settledIn chosen n) ≤ n
-settled-few chosen n = let l = kept-length (isSettled chosen) (below n) in let e = run-length 0 n in omega arith
+settled-few chosen n = let l = kept-length (isSettled chosen) (below n) in let e = length-upFrom 0 n in omega arith
 
 module _ (vs ch : List ℕ) where
   pub line-length : (m : ℕ) → length (lineIn vs ch m) ≡ 13

@@ -5,6 +5,8 @@ ghost use Prim.Native.Nat.{_+_, _*_, _≤_};
 ghost use lib.ListN.{length};
 ghost use lib.Seq.{sets};
 ghost use Rattle.selection.specs.Written.{settledIn, lineOf, lineIn, textIn};
+use frames::numbers::ModuleNo;
+use frames::numbers::Version;
 use frames::written;
 use store::access;
 
@@ -25,17 +27,17 @@ pub fn count_settled(chosen: &[u16], modules: u16) -> u16
 }
 
 // Writes the line of a module at a version; says where the line ends.
-pub fn write_selected(out: &mut [u8], at: usize, m: u16, v: u32) -> usize
+pub fn write_selected(out: &mut [u8], at: usize, m: ModuleNo, v: Version) -> usize
     requires { ⌜ at + 13 ≤ length (now out) ⌝ }
     ensures size { λ r. ⌜ r ≡ at + 13 ⌝ }
-    ensures area { λ r. ⌜ now (out .exit) ≡ sets (now (out .entry)) at (lineOf m v) ⌝ }
+    ensures area { λ r. ⌜ now (out .exit) ≡ sets (now (out .entry)) at (lineOf (m .0) (v .0)) ⌝ }
 {
     let line: [u8; 5] = [
         18,
-        (m % 256) as u8,
-        (v / 65536 % 256) as u8,
-        (v / 256 % 256) as u8,
-        (v % 256) as u8,
+        (m.0 % 256) as u8,
+        (v.0 / 65536 % 256) as u8,
+        (v.0 / 256 % 256) as u8,
+        (v.0 % 256) as u8,
     ];
     written::write_frame(out, at, &line)
 }
@@ -59,7 +61,7 @@ pub fn write_all<'a>(
         let state = access::half_at(chosen, k as usize);
         if 0 < state {
             let v = access::word_at(values, (state - 1) as usize);
-            end = write_selected(out, end, k, v);
+            end = write_selected(out, end, ModuleNo(k), Version(v));
         }
         k += 1;
     }

@@ -17,7 +17,7 @@ use Rattle.rules.specs.Lines.{unless}
 use Rattle.rules.specs.Frames.{byteAt, kindOf, versionAt, catalogues, digitsFor}
 use Rattle.rules.specs.Catalogue.{Version, Need, Catalogue, catalogue, noCatalogue, noVersion, noNeed, needAt, isOf, placesOf}
 use Rattle.rules.specs.Catalogue.{needsOf, lastVersion, limits, Reading, reading, catalogueReader, isEnd, versionIn, withFrame}
-use Rattle.rules.proofs.Lists.{and-fst, and-snd, or-cases, same-or-not, longer, length-last}
+use Rattle.rules.proofs.Lists.{and-fst, and-snd, or-cases, same-or-not, longer, length-last, length-upFrom, upFrom-last}
 use Rattle.rules.proofs.Readers.{orElse-none, unless-none}
 use Rattle.frames.proofs.InLine.{getD-zeros, longer-other}
 use Rattle.store.specs.declared.frame.Fields.{Fields}
@@ -63,20 +63,6 @@ set-next : {A : Type 0} (d : A) (p : A → ℕ) (ns : List ℕ) (xs : List A) (x
 set-next {A} d p ns xs x h old =
     set-each (λ i y. y ≡ p (getD (longer xs x) i d)) ns (length xs) (p x) h (rw (getD-append-seam xs x [] d))
     (λ i e. rw (longer-other d xs x i e) (old i))
-
--- numbers from `i` up are as many as asked for
-length-upFrom : (i n : ℕ) → length (upFrom i n) ≡ n
-unfolding upFrom
-length-upFrom i zero = refl
-length-upFrom i (suc n) = ap suc (length-upFrom (suc i) n)
-
--- one more number, at the end
-upFrom-last : (i n : ℕ) → upFrom i (suc n) ≡ longer (upFrom i n) (i + n)
-unfolding upFrom
-upFrom-last i zero = let e : i ≡ i + 0 = omega arith in ap (λ (k : ℕ). k ∷ []) e
-upFrom-last i (suc n) =
-    let e : suc i + n ≡ i + suc n = omega arith in
-    ap (λ (l : List ℕ). i ∷ l) (upFrom-last (suc i) n ∙ ap (λ (k : ℕ). longer (upFrom (suc i) n) k) e)
 
 -- so numbers from `i` up, with the next one behind them, are one more
 upFrom-more : (xs : List ℕ) (i n at : ℕ) → xs ≡ upFrom i n → i + n ≡ at → longer xs at ≡ upFrom i (suc n)
