@@ -94,13 +94,13 @@ pub fn scan_module<'a>(
     chosen: &'a [u16],
     m: ModuleNo,
     state: u32,
-    k: u16,
+    k: ModuleNo,
 ) -> u32
     ensures { λ r. ⌜ r ≡ scanIn (now (values .entry)) (now (starts .entry)) (now (marks .entry)) (now (targets .entry)) (now (lows .entry))
-        (now (highs .entry)) (now (chosen .entry)) (m .0) state k ⌝ }
+        (now (highs .entry)) (now (chosen .entry)) (m .0) state (k .0) ⌝ }
 {
-    let own = k == m.0;
-    let other = access::half_at(chosen, k as usize);
+    let own = k.0 == m.0;
+    let other = access::half_at(chosen, k.0 as usize);
     let held = if own { state } else { other as u32 };
     if held == 0 {
         return NONE;
@@ -152,7 +152,7 @@ pub fn barring<'a>(
             chosen,
             m,
             state,
-            k,
+            ModuleNo(k),
         );
         if hit != NONE {
             return hit;

@@ -2,6 +2,7 @@
 ghost use mathlib.Core.Path.{_≡_};
 ghost use Rattle.search.specs.Wanted.{betterIn, foldIn, wantedAt, wantedIn};
 use crate::scan::NONE;
+use frames::numbers::ModuleNo;
 use store::access;
 use store::tables;
 
@@ -53,12 +54,12 @@ pub fn wanted_of_module<'a>(
     marks: &'a [u16],
     targets: &'a [u16],
     chosen: &'a [u16],
-    k: u16,
+    k: ModuleNo,
     b: Wanted,
 ) -> Wanted
-    ensures { λ r. ⌜ r ≡ wantedAt (now (starts .entry)) (now (marks .entry)) (now (targets .entry)) (now (chosen .entry)) k b ⌝ }
+    ensures { λ r. ⌜ r ≡ wantedAt (now (starts .entry)) (now (marks .entry)) (now (targets .entry)) (now (chosen .entry)) (k .0) b ⌝ }
 {
-    let state = access::half_at(chosen, k as usize);
+    let state = access::half_at(chosen, k.0 as usize);
     if state == 0 {
         return b;
     }
@@ -85,7 +86,7 @@ pub fn next_of<'a>(
     };
     let mut k: u16 = 0;
     while k < modules {
-        w = wanted_of_module(starts, marks, targets, chosen, k, w);
+        w = wanted_of_module(starts, marks, targets, chosen, ModuleNo(k), w);
         k += 1;
     }
     w

@@ -26,13 +26,16 @@ module _ (ss ms ts ch : List ℕ) (b : Wanted) where
     chosen : (r : Wanted) → r ≡ wantedState ss ms ts ch x b → r ≡ wantedAt ss ms ts ch k b
     chosen r e = rw (← is-state) e
 
+cast-half-at : tie.Need-cast-half-at
+cast-half-at c = search needs
+
 half-at-requires : tie.Need-half-at-requires
 half-at-requires c κs = search needs
 
 returns : tie.Need-returns
 returns c =
-    let given = c .before .before .before .before .before .before .args in
-    absent (given .starts .now) (given .marks .now) (given .targets .now) (given .chosen .now) (given .b) (given .k) _ (c .before .half-at .ensures)
+    let given = c .before .before .before .before .before .before .before .args in
+    absent (given .starts .now) (given .marks .now) (given .targets .now) (given .chosen .now) (given .b) (given .k .0) _ (c .before .half-at .ensures)
     (c .if1 .taken)
 
 sub-at : tie.Need-sub-at
@@ -59,12 +62,12 @@ returns-2 c =
     let started = marked .before in
     let present = started .before in
     let read = present .before in
-    let given = read .before .before .before .before .before .args in
+    let given = read .before .before .before .before .before .before .args in
     let ss = given .starts .now in
     let ms = given .marks .now in
     let ts = given .targets .now in
     let ch = given .chosen .now in
-    chosen ss ms ts ch (given .b) (given .k) _ (read .half-at .ensures) _
+    chosen ss ms ts ch (given .b) (given .k .0) _ (read .half-at .ensures) _
     (of-version ss ms ts ch (given .b) _ (present .if1 .left) _ _ _ (started .half-at2 .ensures) (marked .half-at3 .ensures) (c .before .one-less .ensures) _
     (c .wanted-of-version .ensures))
 
@@ -72,6 +75,7 @@ pub wanted-of-module-spec : {M : Type 1} → statement M
 wanted-of-module-spec =
     tie.close
     (tie.spec
+    cast-half-at
     half-at-requires
     returns
     sub-at
