@@ -13,7 +13,7 @@ use Rattle.store.specs.declared.frame.State.{State}
 use Rattle.store.specs.declared.frame.Last.{Last}
 use Rattle.store.specs.declared.tables.Tables.{Tables}
 use Rattle.store.specs.declared.lookup.Need.{Need}
-use Rattle.rules.specs.Catalogue as Rules
+use Rattle.store.specs.declared.lookup.Span.{Span}
 
 -- tables that hold nothing
 abbrev pub noTables : Tables
@@ -80,8 +80,18 @@ pub record Holds (t : Tables) (c : Catalogue) : Type 0 where
   pub lows : (k : ℕ) → getD (t .lows) k 0 ≡ needAt c k .low
   pub highs : (k : ℕ) → getD (t .highs) k 0 ≡ needAt c k .high
 
--- a need as the code has it
-pub record NeedTold (n : Rules.Need) (r : Need) : Type 0 where
-  pub target : r .target .0 ≡ n .target
-  pub low : r .low .0 ≡ n .low
-  pub high : r .high .0 ≡ n .high
+-- WHAT THE TABLES TELL: numbers side by side
+abbrev pub span : (first count : ℕ) → Span
+span i n = record { first = i; count = n }
+
+-- the places of a module's versions
+abbrev pub placesIn : (firsts counts : List ℕ) → (owner : ℕ) → Span
+placesIn fs ns m = span (getD fs m 0) (getD ns m 0)
+
+-- the numbers of the needs of the version at a place
+abbrev pub needsIn : (starts marks : List ℕ) → (number : ℕ) → Span
+needsIn ss ms i = span (getD ss i 0) (getD ms i 0 - 1)
+
+-- need k
+abbrev pub needIn : (targets lows highs : List ℕ) → (number : ℕ) → Need
+needIn ts ls hs k = record { target = moduleNo (getD ts k 0); low = version (getD ls k 0); high = version (getD hs k 0) }

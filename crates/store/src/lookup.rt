@@ -1,9 +1,8 @@
-// What the tables tell of the catalogue that they hold, whichever it is.
+// What the tables tell, as they stand; by Holds, what is true of the catalogue that they hold, whichever it is.
 ghost use mathlib.Core.Path.{_≡_};
-ghost use Rattle.rules.specs.Lists.{upFrom};
-ghost use Rattle.rules.specs.Catalogue.{Catalogue, versionAtPlace, needAt, placesOf, needsOf};
-ghost use Rattle.store.specs.Tables.{Holds, NeedTold};
-ghost use Rattle.store.specs.declared.tables.Tables.{Tables};
+ghost use lib.ListN.{getD};
+ghost use Rattle.store.specs.Frame.{version};
+ghost use Rattle.store.specs.Tables.{placesIn, needsIn, needIn};
 use crate::access;
 use crate::tables;
 use frames::numbers::ModuleNo;
@@ -25,15 +24,14 @@ pub struct Need {
 
 // The version at a place.
 pub fn version_at(values: &[u32], p: Place) -> Version
-    ensures { λ r. ⌜ ((t : Tables) (c : Catalogue) → t .values ≡ now (values .entry) → Holds t c → r .0 ≡ versionAtPlace c (p .0) .value) ⌝ }
+    ensures { λ r. ⌜ r ≡ version (getD (now (values .entry)) (p .0) 0) ⌝ }
 {
     Version(access::word_at(values, p.0 as usize))
 }
 
 // The places of a module's versions, oldest first.
 pub fn versions_of<'a>(firsts: &'a [u16], counts: &'a [u16], m: ModuleNo) -> Span
-    ensures { λ r. ⌜ ((t : Tables) (c : Catalogue) → t .firsts ≡ now (firsts .entry) → t .counts ≡ now (counts .entry) → Holds t c →
-        placesOf c (m .0) ≡ upFrom (r .first) (r .count)) ⌝ }
+    ensures { λ r. ⌜ r ≡ placesIn (now (firsts .entry)) (now (counts .entry)) (m .0) ⌝ }
 {
     let at = m.0 as usize;
     let first = access::half_at(firsts, at);
@@ -46,8 +44,7 @@ pub fn versions_of<'a>(firsts: &'a [u16], counts: &'a [u16], m: ModuleNo) -> Spa
 
 // The numbers of a version's needs.
 pub fn needs_of<'a>(starts: &'a [u16], marks: &'a [u16], p: Place) -> Span
-    ensures { λ r. ⌜ ((t : Tables) (c : Catalogue) → t .starts ≡ now (starts .entry) → t .marks ≡ now (marks .entry) → Holds t c →
-        needsOf c (p .0) ≡ upFrom (r .first) (r .count)) ⌝ }
+    ensures { λ r. ⌜ r ≡ needsIn (now (starts .entry)) (now (marks .entry)) (p .0) ⌝ }
 {
     let at = p.0 as usize;
     let first = access::half_at(starts, at);
@@ -61,8 +58,7 @@ pub fn needs_of<'a>(starts: &'a [u16], marks: &'a [u16], p: Place) -> Span
 
 // A need by its number.
 pub fn need_at<'a>(targets: &'a [u16], lows: &'a [u32], highs: &'a [u32], k: u16) -> Need
-    ensures { λ r. ⌜ ((t : Tables) (c : Catalogue) → t .targets ≡ now (targets .entry) → t .lows ≡ now (lows .entry) → t .highs ≡ now (highs .entry) →
-        Holds t c → NeedTold (needAt c k) r) ⌝ }
+    ensures { λ r. ⌜ r ≡ needIn (now (targets .entry)) (now (lows .entry)) (now (highs .entry)) k ⌝ }
 {
     let at = k as usize;
     let target = access::half_at(targets, at);

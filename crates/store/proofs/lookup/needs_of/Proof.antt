@@ -1,9 +1,5 @@
 -- The version's two entries. Assumes nothing.
-use mathlib.Core.Path.{sym, _∙_, ap, ap₂}
-use mathlib.Core.List.{List}
-use Prim.Native.Nat.{ℕ, _-_}
-use lib.ListN.{getD}
-use Rattle.rules.specs.Lists.{upFrom}
+use Rattle.store.proofs.Told.{needs-told}
 use borrow.Author.Needs.{needs}
 use Rattle.store.proofs.lookup.needs_of.Statement.{statement}
 use Rattle.store.proofs.lookup.needs_of.Tie as tie
@@ -21,11 +17,10 @@ one-less-requires : tie.Need-one-less-requires
 one-less-requires c κs = search needs
 
 returns : tie.Need-returns
-returns c t k e f h =
+returns c =
     let given = c .before .before .before .before .before .before .args in
-    h .needs (given .p .0) ∙
-    ap₂ upFrom (ap (λ (l : List ℕ). getD l (given .p .0) 0) e ∙ sym (c .before .before .half-at .ensures))
-    (ap (λ (l : List ℕ). getD l (given .p .0) 0 - 1) f ∙ (ap (λ (x : ℕ). x - 1) (sym (c .before .half-at2 .ensures)) ∙ sym (c .one-less .ensures)))
+    needs-told (given .starts .now) (given .marks .now) (given .p .0) (c .before .before .half-at .ensures) (c .before .half-at2 .ensures)
+    (c .one-less .ensures)
 
 pub needs-of-spec : {M : Type 1} → statement M
 needs-of-spec =
