@@ -20,8 +20,7 @@ use Rattle.rules.proofs.Selections.{Next, suc-not-zero, asked-mem, mem-isAsked,
 use Rattle.rules.proofs.Theorems.{next-is-lowest}
 use Rattle.store.specs.Tables.{Holds}
 use Rattle.store.specs.declared.tables.Tables.{Tables}
-use Rattle.search.specs.Scan.{noNumber}
-use Rattle.search.specs.Wanted.{wantedBy, noneWanted, betterIn, foldIn, wantedState, wantedAt, wantedIn}
+use Rattle.search.specs.Wanted.{noModule, wantedBy, noneWanted, betterIn, foldIn, wantedState, wantedAt, wantedIn}
 use Rattle.search.specs.declared.wanted.Wanted.{Wanted}
 
 -- FOLDS OVER LISTS
@@ -65,31 +64,31 @@ module _ (target : ℕ → ℕ) (chosen : List ℕ) where
   Unset m = getD chosen m 0 ≡ 0
 
   abbrev lower : (number : ℕ) → Wanted → Wanted
-  lower k b = cond (eqb (getD chosen (target k) 0) 0 && ltb (target k) (b .owner)) (wantedBy (target k) k) b
+  lower k b = cond (eqb (getD chosen (target k) 0) 0 && ltb (target k) (b .owner .0)) (wantedBy (target k) k) b
 
   -- one turn from `b` to `r`
   data Turn (k : ℕ) (b r : Wanted) : Type 0 where
-    takes : r ≡ wantedBy (target k) k → Unset (target k) → target k < b .owner → Turn k b r
-    leaves : r ≡ b → (Unset (target k) → b .owner ≤ target k) → Turn k b r
+    takes : r ≡ wantedBy (target k) k → Unset (target k) → target k < b .owner .0 → Turn k b r
+    leaves : r ≡ b → (Unset (target k) → b .owner .0 ≤ target k) → Turn k b r
 
   turn : (k : ℕ) (b : Wanted) → Turn k b (lower k b)
-  turn k b = go (true-or-false (eqb (getD chosen (target k) 0) 0)) (true-or-false (ltb (target k) (b .owner)))
+  turn k b = go (true-or-false (eqb (getD chosen (target k) 0) 0)) (true-or-false (ltb (target k) (b .owner .0)))
     where
       go : (eqb (getD chosen (target k) 0) 0 ≡ true) ⊎ (eqb (getD chosen (target k) 0) 0 ≡ false) →
-          (ltb (target k) (b .owner) ≡ true) ⊎ (ltb (target k) (b .owner) ≡ false) → Turn k b (lower k b)
+          (ltb (target k) (b .owner .0) ≡ true) ⊎ (ltb (target k) (b .owner .0) ≡ false) → Turn k b (lower k b)
       go (inl u) (inl l) = takes (rw (u, l)) (eqb-true _ _ u) (ltb-true _ _ l)
       go (inl u) (inr l) = leaves (rw (u, l)) (λ z. ltb-false _ _ l)
       go (inr u) l = leaves (rw u) (λ z. absurd (eqb-false _ _ u z))
 
-  turn-falls : {k : ℕ} {b r : Wanted} → Turn k b r → r .owner ≤ b .owner
+  turn-falls : {k : ℕ} {b r : Wanted} → Turn k b r → r .owner .0 ≤ b .owner .0
   turn-falls (takes e u l) = rw e (omega arith)
   turn-falls (leaves e n) = rw e (omega arith)
 
-  turn-passes : {k : ℕ} {b r : Wanted} → Turn k b r → Unset (target k) → r .owner ≤ target k
+  turn-passes : {k : ℕ} {b r : Wanted} → Turn k b r → Unset (target k) → r .owner .0 ≤ target k
   turn-passes (takes e u l) z = rw e (omega arith)
   turn-passes (leaves e n) z = rw e (n z)
 
-  falls : (xs : List ℕ) (b : Wanted) → foldOver lower b xs .owner ≤ b .owner
+  falls : (xs : List ℕ) (b : Wanted) → foldOver lower b xs .owner .0 ≤ b .owner .0
   unfolding foldOver
   falls [] b = omega arith
   falls (x ∷ xs) b =
@@ -97,10 +96,10 @@ module _ (target : ℕ → ℕ) (chosen : List ℕ) where
       let rest = falls xs (lower x b) in omega arith
 
   -- nothing lower is passed by
-  lowest : (xs : List ℕ) (b : Wanted) {k : ℕ} → Mem k xs → Unset (target k) → foldOver lower b xs .owner ≤ target k
+  lowest : (xs : List ℕ) (b : Wanted) {k : ℕ} → Mem k xs → Unset (target k) → foldOver lower b xs .owner .0 ≤ target k
   unfolding foldOver
   lowest (x ∷ xs) b {k} (here p) u =
-      let one : lower x b .owner ≤ target x = turn-passes (turn x b) (rw p at u) in
+      let one : lower x b .owner .0 ≤ target x = turn-passes (turn x b) (rw p at u) in
       let rest = falls xs (lower x b) in
       rw p (omega arith)
   lowest (x ∷ xs) b (there h) u = lowest xs (lower x b) h u
@@ -108,22 +107,22 @@ module _ (target : ℕ → ℕ) (chosen : List ℕ) where
   -- what a fold from `b` comes to: `b` itself, or a lower target with the first need that has it
   data Came (xs : List ℕ) (b r : Wanted) : Type 0 where
     stayed : r ≡ b → Came xs b r
-    found : r .owner < b .owner → Unset (r .owner) → firstOf (λ (k : ℕ). eqb (target k) (r .owner)) xs ≡ some (r .need) → Came xs b r
+    found : r .owner .0 < b .owner .0 → Unset (r .owner .0) → firstOf (λ (k : ℕ). eqb (target k) (r .owner .0)) xs ≡ some (r .need) → Came xs b r
 
   came-more : {x : ℕ} {xs : List ℕ} {b n r : Wanted} → Turn x b n → Came xs n r → Came (x ∷ xs) b r
   came-more {x} {xs} {b} {n} {r} (takes e u l) (stayed p) =
       let q : r ≡ wantedBy (target x) x = p ∙ e in
       rw q (found l u (first-here _ x xs (eq-eqb (target x) (target x) refl)))
   came-more {x} {xs} {b} {n} {r} (takes e u l) (found g z f) =
-      let o : n .owner ≡ target x = rw e in
-      found (omega arith) z (first-later _ x xs (ne-eqb (target x) (r .owner) (λ q. omega arith)) ∙ f)
+      let o : n .owner .0 ≡ target x = rw e in
+      found (omega arith) z (first-later _ x xs (ne-eqb (target x) (r .owner .0) (λ q. omega arith)) ∙ f)
   came-more (leaves e h) (stayed p) = stayed (p ∙ e)
   came-more {x} {xs} {b} {n} {r} (leaves e h) (found g z f) =
-      let o : n .owner ≡ b .owner = rw e in
-      found (omega arith) z (first-later _ x xs (ne-eqb (target x) (r .owner) other) ∙ f)
+      let o : n .owner .0 ≡ b .owner .0 = rw e in
+      found (omega arith) z (first-later _ x xs (ne-eqb (target x) (r .owner .0) other) ∙ f)
     where
-      other : target x ≢ r .owner
-      other q = let o : n .owner ≡ b .owner = rw e in let l = h (rw q z) in omega arith
+      other : target x ≢ r .owner .0
+      other q = let o : n .owner .0 ≡ b .owner .0 = rw e in let l = h (rw q z) in omega arith
 
   came : (xs : List ℕ) (b : Wanted) → Came xs b (foldOver lower b xs)
   unfolding foldOver
@@ -186,37 +185,37 @@ module _ (t : Tables) (c : Catalogue) (h : Holds t c) (w : WellFormed c) (few : 
       (rw q at (w .targets k (asked-mem c (chosenOf c chosen) (f .0) .isNeed)), rw q at (mem-isAsked c (chosenOf c chosen) (f .0)))
 
   -- where nothing is next, nothing is wanted
-  pub wanted-none : nextModules c (chosenOf c chosen) ≡ [] → wantedOf t c chosen .owner ≡ noNumber
+  pub wanted-none : nextModules c (chosenOf c chosen) ≡ [] → wantedOf t c chosen .owner .0 ≡ noModule
   wanted-none e = go (wantedOf t c chosen) comes
     where
-      go : (r : Wanted) → Comes r → r .owner ≡ noNumber
+      go : (r : Wanted) → Comes r → r .owner .0 ≡ noModule
       go r (stayed p) = rw p
       go r (found l u f) =
-          let a = asked-for (r .owner) (r .need) f in
-          let n = next-none c (chosenOf c chosen) (r .owner) e (a .0) (a .1) in
-          absurd (suc-not-zero (n .1) (same-chosen (r .owner) 0 (a .0) u))
+          let a = asked-for (r .owner .0) (r .need) f in
+          let n = next-none c (chosenOf c chosen) (r .owner .0) e (a .0) (a .1) in
+          absurd (suc-not-zero (n .1) (same-chosen (r .owner .0) 0 (a .0) u))
 
   -- the next module is wanted, by the first need that asks for it
   pub wanted-next : (m : ℕ) (ms : List ℕ) → nextModules c (chosenOf c chosen) ≡ m ∷ ms →
-      (wantedOf t c chosen .owner ≡ m) × (asking c (chosenOf c chosen) m ≡ some (wantedOf t c chosen .need))
+      (wantedOf t c chosen .owner .0 ≡ m) × (asking c (chosenOf c chosen) m ≡ some (wantedOf t c chosen .need))
   unfolding asking
   wanted-next m ms e = go (wantedOf t c chosen) comes at-most
     where
       first : Next c (chosenOf c chosen) m
       first = next-first c (chosenOf c chosen) m ms e
 
-      at-most : wantedOf t c chosen .owner ≤ m
+      at-most : wantedOf t c chosen .owner .0 ≤ m
       at-most =
           let k = isAsked-mem c (chosenOf c chosen) m (first .needed) in
           let unset : getD chosen (targetOf c (k .0)) 0 ≡ 0 = rw (k .1 .1) (sym (getD-take (c .modules) chosen m 0 (first .fits)) ∙ first .unset) in
           let l = lowest (targetOf c) chosen (asked c (chosenOf c chosen)) noneWanted (k .1 .0) unset in
           rw (one-fold t c h chosen) (rw (k .1 .1) at l)
 
-      go : (r : Wanted) → Comes r → r .owner ≤ m → (r .owner ≡ m) × (asking c (chosenOf c chosen) m ≡ some (r .need))
-      go r (stayed p) l = let o : r .owner ≡ noNumber = rw p in let f = first .fits in absurd (omega arith)
+      go : (r : Wanted) → Comes r → r .owner .0 ≤ m → (r .owner .0 ≡ m) × (asking c (chosenOf c chosen) m ≡ some (r .need))
+      go r (stayed p) l = let o : r .owner .0 ≡ noModule = rw p in let f = first .fits in absurd (omega arith)
       go r (found g u f) l =
-          let a = asked-for (r .owner) (r .need) f in
-          let z = same-chosen (r .owner) 0 (a .0) u in
-          let b : m ≤ r .owner = next-is-lowest c (chosenOf c chosen) m ms e .1 (r .owner) (a .0) z (a .1) in
-          let q : r .owner ≡ m = omega arith in
+          let a = asked-for (r .owner .0) (r .need) f in
+          let z = same-chosen (r .owner .0) 0 (a .0) u in
+          let b : m ≤ r .owner .0 = next-is-lowest c (chosenOf c chosen) m ms e .1 (r .owner .0) (a .0) z (a .1) in
+          let q : r .owner .0 ≡ m = omega arith in
           (q, rw q at f)

@@ -12,10 +12,10 @@ pub record Folded {A : Type 0} (h : ℕ → A → A) (start : A) (first count : 
 
 module _ {A : Type 0} (h : ℕ → A → A) (start : A) (first count : ℕ) where
   -- before the first turn
-  pub none-done : Folded h start first count start first
-  none-done =
+  pub none-done : {now : A} → now ≡ start → Folded h start first count now first
+  none-done s =
       let e : first + count - first ≡ count = omega arith in
-      record { within = omega arith; same = rw e }
+      record { within = omega arith; same = rw (e, s) }
 
   module _ {now : A} {k : ℕ} (f : Folded h start first count now k) where
     -- one turn

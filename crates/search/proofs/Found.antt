@@ -21,6 +21,7 @@ use Rattle.rules.proofs.Sheets.{barring-need}
 use Rattle.store.specs.Tables.{Holds}
 use Rattle.store.specs.declared.tables.Tables.{Tables}
 use Rattle.search.specs.Scan.{noNumber, numberOf}
+use Rattle.search.specs.Wanted.{noModule}
 use Rattle.search.specs.Finding.{barringIn, nextIn, triesIn, ifNone, tryIn, findEach, findFrom}
 use Rattle.search.proofs.Newest.{newest-run}
 use Rattle.search.proofs.Barring.{barring-law}
@@ -132,11 +133,11 @@ module _ (t : Tables) (c : Catalogue) (holds : Holds t c) (w : WellFormed c) (fe
       s = take (c .modules) ch
 
       wanted : ℕ
-      wanted = nextIn t (c .modules) ch .owner
+      wanted = nextIn t (c .modules) ch .owner .0
 
       done : nextModules c s ≡ [] → foundOf (c .modules) (findFrom (suc k) t (c .modules) ch) ≡ searchFrom (suc k) c (newestFirst c) s .found
       done e =
-          ap (foundOf (c .modules)) (cond-true _ _ (eq-eqb wanted noNumber (wanted-none t c holds w few ch e))) ∙
+          ap (foundOf (c .modules)) (cond-true _ _ (eq-eqb wanted noModule (wanted-none t c holds w few ch e))) ∙
           ap (λ (r : Searched). r .found) (sym (search-done k c (newestFirst c) s e))
 
       place : (m : ℕ) (ms : List ℕ) → nextModules c s ≡ m ∷ ms → Agree (findFrom k t (c .modules)) (searchFrom k c (newestFirst c)) →
@@ -145,7 +146,7 @@ module _ (t : Tables) (c : Catalogue) (holds : Holds t c) (w : WellFormed c) (fe
           let fits = next-first c s m ms e .fits in
           let is : wanted ≡ m = wanted-next t c holds w few ch m ms e .0 in
           let run = newest-run t c m holds in
-          ap (foundOf (c .modules)) (cond-false _ _ (ne-eqb wanted noNumber (λ q. omega arith))) ∙
+          ap (foundOf (c .modules)) (cond-false _ _ (ne-eqb wanted noModule (λ q. omega arith))) ∙
           ap (λ (x : ℕ). foundOf (c .modules) (findEach t (c .modules) (findFrom k t (c .modules)) ch x (triesIn t x))) is ∙
           ap (λ (l : List ℕ). foundOf (c .modules) (findEach t (c .modules) (findFrom k t (c .modules)) ch m l)) (sym run) ∙
           each-law (findFrom k t (c .modules)) (searchFrom k c (newestFirst c)) agree ch h m fits (newestFirst c m)

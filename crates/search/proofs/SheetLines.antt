@@ -20,6 +20,7 @@ use Rattle.rules.proofs.Sheets.{lines-done, lines-next}
 use Rattle.store.specs.Tables.{Holds}
 use Rattle.store.specs.declared.tables.Tables.{Tables}
 use Rattle.search.specs.Scan.{noNumber}
+use Rattle.search.specs.Wanted.{noModule}
 use Rattle.search.specs.Finding.{nextIn, triesIn, tryLines, eachLines, linesIn}
 use Rattle.search.proofs.Newest.{newest-run}
 use Rattle.search.proofs.Asked.{wanted-none, wanted-next}
@@ -74,11 +75,11 @@ module _ (t : Tables) (c : Catalogue) (holds : Holds t c) (w : WellFormed c) (fe
       s = take (c .modules) ch
 
       wanted : ℕ
-      wanted = nextIn t (c .modules) ch .owner
+      wanted = nextIn t (c .modules) ch .owner .0
 
       done : nextModules c s ≡ [] → linesIn (suc k) t (c .modules) ch n ≡ searchLines (suc k) c (newestFirst c) s n
       done e =
-          cond-true _ _ (eq-eqb wanted noNumber (wanted-none t c holds w few ch e)) ∙ sym (lines-done k c (newestFirst c) s n e)
+          cond-true _ _ (eq-eqb wanted noModule (wanted-none t c holds w few ch e)) ∙ sym (lines-done k c (newestFirst c) s n e)
 
       rest : (owner : ℕ) → (places : List ℕ) → List Entry
       rest m is = eachLines t (c .modules) (linesIn k t (c .modules)) ch m n (suc n) is
@@ -89,7 +90,7 @@ module _ (t : Tables) (c : Catalogue) (holds : Holds t c) (w : WellFormed c) (fe
           let fits = next-first c s m ms e .fits in
           let both = wanted-next t c holds w few ch m ms e in
           let is : wanted ≡ m = both .0 in
-          cond-false _ _ (ne-eqb wanted noNumber (λ q. omega arith)) ∙
+          cond-false _ _ (ne-eqb wanted noModule (λ q. omega arith)) ∙
           ap₂ (λ (x : ℕ) (l : List Entry). cites x ∷ l) (sym (ap (λ (o : Option ℕ). Option·getD o 0) (both .1)))
           (ap (λ (x : ℕ). rest x (triesIn t x)) is ∙ ap (rest m) (sym (newest-run t c m holds)) ∙
           each-lines (linesIn k t (c .modules)) (searchLines k c (newestFirst c)) agree ch h m fits n (suc n) (newestFirst c m)

@@ -2,9 +2,10 @@
 use mathlib.Core.List.{List, [], _∷_}
 use Prim.Native.Nat.{ℕ, zero, suc, _+_}
 use Rattle.search.specs.declared.choices.Choices.{Choices}
+use Rattle.search.specs.declared.wanted.Wanted.{Wanted}
 
-abbrev pub choices : List ℕ → Choices
-choices xs = record { chosen = xs }
+abbrev pub choices : (chosen : List ℕ) → (next : Wanted) → Choices
+choices xs w = record { chosen = xs; next = w }
 
 -- a run of places from its last to its first
 unfoldable pub falling : (first count : ℕ) → List ℕ

@@ -11,7 +11,7 @@ use Rattle.store.specs.declared.tables.Tables.{Tables}
 use Rattle.search.specs.declared.wanted.Wanted.{Wanted}
 use Rattle.search.specs.Choosing.{falling}
 use Rattle.search.specs.Scan.{noNumber, scanIn, overIn}
-use Rattle.search.specs.Wanted.{wantedIn}
+use Rattle.search.specs.Wanted.{noModule, wantedIn}
 
 -- the need that bars a trial of module m at place i
 abbrev pub barringIn : Tables → (modules : ℕ) → (chosen : List ℕ) → (owner place : ℕ) → ℕ
@@ -45,8 +45,8 @@ findEach t n go ch m (i ∷ is) = ifNone (tryIn t n go ch m i) (findEach t n go 
 unfoldable pub findFrom : (fuel : ℕ) → Tables → (modules : ℕ) → (chosen : List ℕ) → Option (List ℕ)
 findFrom zero t n ch = some ch
 findFrom (suc k) t n ch =
-    cond (eqb (nextIn t n ch .owner) noNumber) (some ch)
-    (findEach t n (findFrom k t n) ch (nextIn t n ch .owner) (triesIn t (nextIn t n ch .owner)))
+    cond (eqb (nextIn t n ch .owner .0) noModule) (some ch)
+    (findEach t n (findFrom k t n) ch (nextIn t n ch .owner .0) (triesIn t (nextIn t n ch .owner .0)))
 
 -- THE LINES of a trial: the need that bars it, or those of the search that goes on; `at` is the next line's number
 abbrev pub tryLines : Tables → (modules : ℕ) → (go : List ℕ → ℕ → List Entry) → (chosen : List ℕ) → (owner place at : ℕ) → List Entry
@@ -63,6 +63,6 @@ eachLines t n go ch m a k (i ∷ is) = let ls = tryLines t n go ch m i k in
 unfoldable pub linesIn : (fuel : ℕ) → Tables → (modules : ℕ) → (chosen : List ℕ) → (at : ℕ) → List Entry
 linesIn zero t n ch k = []
 linesIn (suc f) t n ch k =
-    cond (eqb (nextIn t n ch .owner) noNumber) []
+    cond (eqb (nextIn t n ch .owner .0) noModule) []
     (cites (nextIn t n ch .need) ∷
-    eachLines t n (linesIn f t n) ch (nextIn t n ch .owner) k (suc k) (triesIn t (nextIn t n ch .owner)))
+    eachLines t n (linesIn f t n) ch (nextIn t n ch .owner .0) k (suc k) (triesIn t (nextIn t n ch .owner .0)))

@@ -7,7 +7,7 @@ use lib.Dec.{eqb}
 use lib.ListN.{getD}
 use Rattle.rules.specs.Catalogue.{isWithin}
 
--- what stands for no need and for no module
+-- what stands for no need
 abbrev pub noNumber : ℕ
 noNumber = 4294967295
 

@@ -4,18 +4,23 @@ use mathlib.Core.List.{List}
 use Prim.Native.Nat.{ℕ, zero, suc, _-_}
 use lib.Dec.{ltb, eqb}
 use lib.ListN.{getD}
+use Rattle.store.specs.Frame.{moduleNo}
 use Rattle.search.specs.Scan.{noNumber}
 use Rattle.search.specs.declared.wanted.Wanted.{Wanted}
 
+-- what stands for no module
+abbrev pub noModule : ℕ
+noModule = 65535
+
 abbrev pub wantedBy : (owner need : ℕ) → Wanted
-wantedBy m k = record { owner = m; need = k }
+wantedBy m k = record { owner = moduleNo m; need = k }
 
 abbrev pub noneWanted : Wanted
-noneWanted = wantedBy noNumber noNumber
+noneWanted = wantedBy noModule noNumber
 
 -- need k, if it asks for a module that is not chosen and lower than the one wanted so far
 abbrev pub betterIn : (targets chosen : List ℕ) → (number : ℕ) → Wanted → Wanted
-betterIn ts ch k b = cond (eqb (getD ch (getD ts k 0) 0) 0 && ltb (getD ts k 0) (b .owner)) (wantedBy (getD ts k 0) k) b
+betterIn ts ch k b = cond (eqb (getD ch (getD ts k 0) 0) 0 && ltb (getD ts k 0) (b .owner .0)) (wantedBy (getD ts k 0) k) b
 
 -- what a step makes of a value over a run of numbers, lowest first
 unfoldable pub foldIn : {A : Type 0} → (ℕ → A → A) → A → (first count : ℕ) → A

@@ -1,30 +1,35 @@
-// The record of choices: for each module 0, or one more than the place of the version that is chosen.
+// The record of choices: for each module 0, or one more than the place of the version that is chosen; and the module to choose next.
 ghost use mathlib.Core.Path.{_≡_};
 ghost use Prim.Native.Nat.{suc, _<_};
 ghost use lib.ListN.{replicate, set};
 ghost use Rattle.search.specs.Choosing.{choices};
+ghost use Rattle.search.specs.Wanted.{noneWanted, wantedIn};
+use crate::wanted;
+use crate::wanted::Wanted;
 use frames::numbers::ModuleNo;
 use frames::numbers::Place;
 use store::limits::MODULES;
 
 pub struct Choices {
     pub chosen: [u16; MODULES as usize],
+    pub next: Wanted,
 }
 
 impl Choices {
-    // Nothing is chosen.
+    // Nothing is chosen, and nothing is known of what is next.
     pub fn none() -> Choices
-        ensures { λ r. ⌜ r ≡ choices (replicate 32 0) ⌝ }
+        ensures { λ r. ⌜ r ≡ choices (replicate 32 0) noneWanted ⌝ }
     {
         Choices {
             chosen: [0u16; MODULES as usize],
+            next: wanted::nothing(),
         }
     }
 
     // A module's version is chosen.
     pub fn choose(mut self, m: ModuleNo, p: Place) -> Choices
         requires { ⌜ p .0 < 65535 ⌝ }
-        ensures { λ r. ⌜ r ≡ choices (set (self .chosen) (m .0) (suc (p .0))) ⌝ }
+        ensures { λ r. ⌜ r ≡ choices (set (self .chosen) (m .0) (suc (p .0))) (self .next) ⌝ }
     {
         let at = m.0 as usize;
         if at < MODULES as usize {
@@ -33,14 +38,32 @@ impl Choices {
         self
     }
 
-    // A module's choice is taken back.
-    pub fn take_back(mut self, m: ModuleNo) -> Choices
-        ensures { λ r. ⌜ r ≡ choices (set (self .chosen) (m .0) 0) ⌝ }
+    // The choice of a wanted module is taken back: it is next again.
+    pub fn take_back(mut self, w: Wanted) -> Choices
+        ensures { λ r. ⌜ r ≡ choices (set (self .chosen) (w .owner .0) 0) w ⌝ }
     {
+        self.next = w;
+        let m = w.owner;
         let at = m.0 as usize;
         if at < MODULES as usize {
             self.chosen[at] = 0;
         }
+        self
+    }
+
+    // The module to choose next is found, and the need that asks for it.
+    pub fn next_module<'a>(
+        mut self,
+        starts: &'a [u16],
+        marks: &'a [u16],
+        targets: &'a [u16],
+        modules: u16,
+    ) -> Choices
+        ensures { λ r. ⌜ r ≡ choices (self .chosen)
+            (wantedIn (now (starts .entry)) (now (marks .entry)) (now (targets .entry)) (self .chosen) modules) ⌝ }
+    {
+        let w = wanted::next_of(starts, marks, targets, &self.chosen, modules);
+        self.next = w;
         self
     }
 }

@@ -8,7 +8,7 @@ use frames::numbers::Version;
 use store::access;
 use store::tables;
 
-// What stands for no need and for no module.
+// What stands for no need.
 pub const NONE: u32 = 4294967295;
 
 // Need k leaves out a module's state (0: absent, else one more than the place of its version), where a version is chosen.

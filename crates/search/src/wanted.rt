@@ -1,15 +1,28 @@
 // The next module to choose, and the need that asks for it: the lowest module that a chosen version needs and that is not chosen yet.
 ghost use mathlib.Core.Path.{_≡_};
-ghost use Rattle.search.specs.Wanted.{betterIn, foldIn, wantedAt, wantedIn};
+ghost use Rattle.search.specs.Wanted.{noneWanted, betterIn, foldIn, wantedAt, wantedIn};
 use crate::scan::NONE;
 use frames::numbers::ModuleNo;
 use store::access;
 use store::tables;
 
-// A module to choose, and the number of the first need that asks for it; both NONE where nothing is wanted.
+// What stands for no module.
+pub const NO_MODULE: u16 = 65535;
+
+// A module to choose, and the number of the first need that asks for it; NO_MODULE and NONE where nothing is wanted.
 pub struct Wanted {
-    pub owner: u32,
+    pub owner: ModuleNo,
     pub need: u32,
+}
+
+// Nothing is wanted.
+pub fn nothing() -> Wanted
+    ensures { λ r. ⌜ r ≡ noneWanted ⌝ }
+{
+    Wanted {
+        owner: ModuleNo(NO_MODULE),
+        need: NONE,
+    }
 }
 
 // Need k, if it asks for a module that is not chosen and lower than the one wanted so far.
@@ -18,10 +31,10 @@ pub fn better<'a>(targets: &'a [u16], chosen: &'a [u16], k: u32, b: Wanted) -> W
 {
     let target = access::half_at(targets, k as usize);
     let state = access::half_at(chosen, target as usize);
-    let owner = target as u32;
-    if (state == 0) & (owner < b.owner) {
+    let lowest = b.owner;
+    if (state == 0) & (target < lowest.0) {
         return Wanted {
-            owner: owner,
+            owner: ModuleNo(target),
             need: k,
         };
     }
@@ -80,10 +93,7 @@ pub fn next_of<'a>(
 ) -> Wanted
     ensures { λ r. ⌜ r ≡ wantedIn (now (starts .entry)) (now (marks .entry)) (now (targets .entry)) (now (chosen .entry)) modules ⌝ }
 {
-    let mut w = Wanted {
-        owner: NONE,
-        need: NONE,
-    };
+    let mut w = nothing();
     let mut k: u16 = 0;
     while k < modules {
         w = wanted_of_module(starts, marks, targets, chosen, ModuleNo(k), w);

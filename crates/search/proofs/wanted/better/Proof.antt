@@ -14,10 +14,10 @@ use Rattle.search.proofs.wanted.better.Tie as tie
 
 -- with the target and its state as read
 module _ (ts ch : List ℕ) (k : ℕ) (b : Wanted) (t x : ℕ) (is-target : t ≡ getD ts k 0) (is-state : x ≡ getD ch t 0) where
-  takes : (eqb x 0 && ltb t (b .owner)) ≡ true → wantedBy t k ≡ betterIn ts ch k b
+  takes : (eqb x 0 && ltb t (b .owner .0)) ≡ true → wantedBy t k ≡ betterIn ts ch k b
   takes e = rw (← is-target, ← is-state) (sym (cond-true _ _ e))
 
-  leaves : (eqb x 0 && ltb t (b .owner)) ≡ false → b ≡ betterIn ts ch k b
+  leaves : (eqb x 0 && ltb t (b .owner .0)) ≡ false → b ≡ betterIn ts ch k b
   leaves e = rw (← is-target, ← is-state) (sym (cond-false _ _ e))
 
 half-at-requires : tie.Need-half-at-requires
@@ -29,22 +29,19 @@ cast-half-at c = search needs
 half-at-requires-2 : tie.Need-half-at-requires-2
 half-at-requires-2 c κs = search needs
 
-cast-owner : tie.Need-cast-owner
-cast-owner c = search needs
-
 returns : tie.Need-returns
 returns c =
-    let given = c .before .before .before .before .before .before .args in
-    takes (given .targets .now) (given .chosen .now) (given .k) (given .b) _ _ (c .before .before .before .half-at .ensures)
-    (c .before .before .half-at2 .ensures) (c .if1 .taken)
+    let given = c .before .before .before .before .before .before .before .args in
+    takes (given .targets .now) (given .chosen .now) (given .k) (given .b) _ _ (c .before .before .before .before .half-at .ensures)
+    (c .before .before .before .half-at2 .ensures) (c .if1 .taken)
 
 returns-2 : tie.Need-returns-2
 returns-2 c =
-    let given = c .before .before .before .before .before .before .args in
-    leaves (given .targets .now) (given .chosen .now) (given .k) (given .b) _ _ (c .before .before .before .half-at .ensures)
-    (c .before .before .half-at2 .ensures) (c .if1 .left)
+    let given = c .before .before .before .before .before .before .before .args in
+    leaves (given .targets .now) (given .chosen .now) (given .k) (given .b) _ _ (c .before .before .before .before .half-at .ensures)
+    (c .before .before .before .half-at2 .ensures) (c .if1 .left)
 
 pub better-spec : {M : Type 1} → statement M
 better-spec =
     tie.close
-    (tie.spec half-at-requires cast-half-at half-at-requires-2 cast-owner returns returns-2)
+    (tie.spec half-at-requires cast-half-at half-at-requires-2 returns returns-2)

@@ -2,19 +2,22 @@
 use Prim.Native.Nat.{_-_}
 use native.Mathlib.Omega.{arith}
 use borrow.Author.Needs.{needs}
-use Rattle.search.specs.Wanted.{wantedAt}
+use Rattle.search.specs.Wanted.{noneWanted, wantedAt}
 use Rattle.search.proofs.Folds.{Folded, none-done, one-done, all-done}
 use Rattle.search.proofs.wanted.next_of.Statement.{statement}
 use Rattle.search.proofs.wanted.next_of.Tie as tie
 
 abbrev Inv-loop : tie.InvT-loop
-Inv-loop starts marks targets chosen modules w₀ k₀ w k = Folded (wantedAt starts marks targets chosen) w₀ 0 modules w k
+Inv-loop starts marks targets chosen modules w₀ k₀ w k = Folded (wantedAt starts marks targets chosen) noneWanted 0 modules w k
 
 abbrev μ-loop : tie.MeasureT-loop
 μ-loop starts marks targets chosen modules w₀ k₀ w k = modules - k
 
+nothing-requires : tie.Need-nothing-requires Inv-loop μ-loop
+nothing-requires c κs = search needs
+
 loop-holds : tie.Need-loop-holds Inv-loop μ-loop
-loop-holds c = none-done _ _ _ _
+loop-holds c = none-done _ _ _ _ (c .nothing .ensures)
 
 wanted-of-module-requires : tie.Need-wanted-of-module-requires Inv-loop μ-loop
 wanted-of-module-requires c κs = search needs
@@ -37,6 +40,7 @@ next-of-spec =
     (tie.spec
     Inv-loop
     μ-loop
+    nothing-requires
     loop-holds
     wanted-of-module-requires
     add-k

@@ -1,4 +1,5 @@
 -- `search::wanted::wanted_of_version` meets its contract. The loop's invariant: going on from here gives what the whole run of needs gives.
+use mathlib.Core.Path.{refl}
 use Prim.Native.Nat.{_+_, _-_}
 use borrow.Author.Needs.{needs}
 use Rattle.search.specs.Wanted.{betterIn}
@@ -16,7 +17,7 @@ add-end : tie.Need-add-end Inv-loop μ-loop
 add-end c = search needs
 
 loop-holds : tie.Need-loop-holds Inv-loop μ-loop
-loop-holds c = none-done _ _ _ _
+loop-holds c = none-done _ _ _ _ refl
 
 better-requires : tie.Need-better-requires Inv-loop μ-loop
 better-requires c κs = search needs

@@ -1,5 +1,6 @@
 -- Past the last module nothing is stored, and `set` changes nothing there. Assumes nothing.
 use mathlib.Core.Path.{_≡_, sym, ap}
+use mathlib.Core.List.{List}
 use Prim.Native.Nat.{ℕ}
 use native.Mathlib.Omega.{arith}
 use native.Mathlib.Numerals.{add-one}
@@ -28,12 +29,13 @@ element-write-self c = search needs
 returns : tie.Need-returns
 returns c =
     let a = c .before .before .before .args in
-    ap (λ (x : ℕ). choices (set (a .t1 .chosen) (a .m .0) x)) (add-one (a .p .0))
+    ap (λ (x : ℕ). choices (set (a .t1 .chosen) (a .m .0) x) (a .t1 .next)) (add-one (a .p .0))
 
 returns-2 : tie.Need-returns-2
 returns-2 c =
     let long : length (c .before .before .args .t1 .chosen) ≡ 32 = search needs in
-    ap choices (sym (set-out (c .before .before .args .t1 .chosen) (c .before .before .args .m .0) _ (omega arith)))
+    let a = c .before .before .args in
+    ap (λ (l : List ℕ). choices l (a .t1 .next)) (sym (set-out (a .t1 .chosen) (a .m .0) _ (omega arith)))
 
 pub choose-spec : {M : Type 1} → statement M
 choose-spec =

@@ -1,5 +1,7 @@
 -- Past the last module nothing is stored, and `set` changes nothing there. Assumes nothing.
 use mathlib.Core.Path.{_≡_, sym, ap}
+use mathlib.Core.List.{List}
+use Prim.Native.Nat.{ℕ}
 use native.Mathlib.Omega.{arith}
 use lib.ListN.{length}
 use lib.Seq.{set-out}
@@ -25,8 +27,9 @@ returns c = search needs
 
 returns-2 : tie.Need-returns-2
 returns-2 c =
-    let long : length (c .before .before .args .t1 .chosen) ≡ 32 = search needs in
-    ap choices (sym (set-out (c .before .before .args .t1 .chosen) (c .before .before .args .m .0) _ (omega arith)))
+    let long : length (c .before .before .before .args .t1 .chosen) ≡ 32 = search needs in
+    let a = c .before .before .before .args in
+    ap (λ (l : List ℕ). choices l (a .w)) (sym (set-out (a .t1 .chosen) (a .w .owner .0) _ (omega arith)))
 
 pub take-back-spec : {M : Type 1} → statement M
 take-back-spec =
