@@ -3,3 +3,4 @@ pub mod Choosing
 pub mod Scan
 pub mod Wanted
 pub mod Finding
+pub mod Noting
