@@ -4,3 +4,4 @@ pub mod Scan
 pub mod Wanted
 pub mod Finding
 pub mod Noting
+pub mod Walking

@@ -2,4 +2,5 @@
 pub mod choices;
 pub mod noting;
 pub mod scan;
+pub mod walk;
 pub mod wanted;

@@ -19,6 +19,7 @@ pub struct Noted {
 const LINE: usize = 15;
 // Kinds of a sheet's lines.
 const NEED_LINE: u8 = 0x21;
+
 const RESOLVED: u8 = 0x22;
 
 // What is left of a length behind a place.
@@ -63,14 +64,7 @@ pub fn cite(work: &mut [u8], n: Noted, allowance: u16, k: u32) -> Noted
 }
 
 // A resolved line, from two lines at a module.
-pub fn resolve(
-    work: &mut [u8],
-    n: Noted,
-    allowance: u16,
-    a: u16,
-    b: u16,
-    m: ModuleNo,
-) -> Noted
+pub fn resolve(work: &mut [u8], n: Noted, allowance: u16, a: u16, b: u16, m: ModuleNo) -> Noted
     ensures told { λ r. ⌜ r ≡ noteIn allowance (entryBytes (resolves a b (m .0))) (sheet (now (work .entry)) n) .noted ⌝ }
     ensures area { λ r. ⌜ now (work .exit) ≡ noteIn allowance (entryBytes (resolves a b (m .0))) (sheet (now (work .entry)) n) .area ⌝ }
 {

@@ -1,6 +1,6 @@
 // Which need makes a trial fail at once: the needs of chosen versions and of the version tried, by module, each against the tables.
 ghost use mathlib.Core.Path.{_≡_};
-ghost use Prim.Native.Nat.{_+_};
+ghost use Prim.Native.Nat.{suc};
 ghost use Rattle.search.specs.Scan.{leavesOutIn, barsIn, firstIn, scanIn, overIn};
 use frames::numbers::ModuleNo;
 use frames::numbers::Place;
@@ -137,7 +137,7 @@ pub fn barring<'a>(
     p: Place,
 ) -> u32
     ensures { λ r. ⌜ r ≡ overIn (scanIn (now (values .entry)) (now (starts .entry)) (now (marks .entry)) (now (targets .entry)) (now (lows .entry))
-        (now (highs .entry)) (now (chosen .entry)) (m .0) (p .0 + 1)) 0 modules ⌝ }
+        (now (highs .entry)) (now (chosen .entry)) (m .0) (suc (p .0))) 0 modules ⌝ }
 {
     let state = p.0 as u32 + 1;
     let mut k: u16 = 0;

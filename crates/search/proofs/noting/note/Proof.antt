@@ -36,7 +36,7 @@ returns-2 c =
     let given = c .before .before .before .before .before .before .before .before .before .before .before .args in
     let wrote = c .before .before .before .write-frame .ensures in
     let same = told-noted (given .allowance) (sheet (given .work .now) (given .n)) (c .before .before .before .before .before .before .before .before .left-behind .ensures) (given .bytes .now) (c .before .before .before .before .before .if1 .left)
-      (wrote .0) (wrote .1) in
+    (wrote .0) (wrote .1) in
     (ap (λ (s : Sheet). s .noted) same, ap (λ (s : Sheet). s .area) same)
 
 pub note-spec : {M : Type 1} → statement M

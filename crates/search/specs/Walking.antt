@@ -1,0 +1,72 @@
+-- The search as place and trial make it: the record of choices and the sheet go into each move and come back. Assumes nothing: these are definitions.
+use mathlib.Core.Bool.{Bool, true, false, cond}
+use mathlib.Core.List.{List, [], _∷_}
+use Prim.Native.Nat.{ℕ, zero, suc, _+_, _-_, _≤_}
+use lib.Dec.{eqb}
+use lib.ListN.{getD, set}
+use Rattle.rules.specs.Sheet.{cites, resolves}
+use Rattle.search.specs.declared.choices.Choices.{Choices}
+use Rattle.search.specs.declared.walk.Found.{Found}
+use Rattle.search.specs.declared.wanted.Wanted.{Wanted}
+use Rattle.search.specs.Choosing.{choices, falling}
+use Rattle.search.specs.Scan.{noNumber, scanIn, overIn}
+use Rattle.search.specs.Wanted.{noModule, wantedIn}
+use Rattle.search.specs.Noting.{Sheet, noteIn, numberIn, entryBytes}
+
+-- what a search asks of the tables: the need that bars a trial, the module that is wanted next, and a module's versions in the order of their trials
+pub record Moves : Type 0 where
+  pub bar : (chosen : List ℕ) → (owner place : ℕ) → ℕ
+  pub next : (chosen : List ℕ) → Wanted
+  pub tries : (owner : ℕ) → List ℕ
+
+abbrev pub movesIn : (values starts marks firsts counts targets lows highs : List ℕ) → (modules : ℕ) → Moves
+movesIn vs ss ms fs cs ts ls hs n =
+    record {
+      bar = λ ch m i. overIn (scanIn vs ss ms ts ls hs ch m (suc i)) 0 n;
+      next = λ ch. wantedIn ss ms ts ch n;
+      tries = λ m. falling (getD fs m 0) (getD cs m 0);
+    }
+
+-- every place of a module's versions, and the one past them, is a number of 16 bits
+abbrev pub PlacesFit : (firsts counts : List ℕ) → Type 0
+PlacesFit fs cs = (m : ℕ) → getD fs m 0 + getD cs m 0 ≤ 65535
+
+-- how a search ends: whether it found a selection, the record of choices, and the sheet
+pub record Walked : Type 0 where
+  pub found : Bool
+  pub choices : Choices
+  pub sheet : Sheet
+
+abbrev pub walked : (found : Bool) → Choices → Sheet → Walked
+walked z r s = record { found = z; choices = r; sheet = s }
+
+-- what is told of it beside the work area
+abbrev pub told : Walked → Found
+told w = record { found = w .found; choices = w .choices; noted = w .sheet .noted }
+
+-- after a failure the choice is taken back
+abbrev pub takenBack : Wanted → Walked → Walked
+takenBack w r = cond (r .found) r (walked false (choices (set (r .choices .chosen) (w .owner .0) 0) w) (r .sheet))
+
+-- TRIAL of the wanted module at a place: barred, or the search goes on with the choice made
+unfoldable pub tryWalk : Moves → (allowance : ℕ) → (go : Choices → Sheet → Walked) → Wanted → (place : ℕ) → Choices → Sheet → Walked
+tryWalk v a go w i r s =
+    cond (eqb (v .bar (r .chosen) (w .owner .0) i) noNumber)
+    (takenBack w (go (choices (set (r .chosen) (w .owner .0) (suc i)) (r .next)) s))
+    (walked false r (noteIn a (entryBytes (cites (v .bar (r .chosen) (w .owner .0) i))) s))
+
+-- the versions in turn, until one is found with; each failed trial's last line is resolved with the line that the place has come to
+unfoldable pub eachWalk :
+    Moves → (allowance : ℕ) → (go : Choices → Sheet → Walked) → Wanted → (came : ℕ) → (places : List ℕ) → Choices → Sheet → Walked
+eachWalk v a go w k [] r s = walked false r s
+eachWalk v a go w k (i ∷ is) r s = let t = tryWalk v a go w i r s in
+    cond (t .found) t
+    (eachWalk v a go w (numberIn (t .sheet)) is (t .choices)
+    (noteIn a (entryBytes (resolves k (numberIn (t .sheet) - 1) (w .owner .0))) (t .sheet)))
+
+-- PLACE: nothing wanted, and it is found; else the wanted module's versions, behind the need that asks for it. Fuel: the modules
+unfoldable pub walkIn : (fuel : ℕ) → Moves → (allowance : ℕ) → Choices → Sheet → Walked
+walkIn zero v a r s = walked true r s
+walkIn (suc f) v a r s = let w = v .next (r .chosen) in
+    cond (eqb (w .owner .0) noModule) (walked true (choices (r .chosen) w) s)
+    (eachWalk v a (walkIn f v a) w (numberIn s) (v .tries (w .owner .0)) (choices (r .chosen) w) (noteIn a (entryBytes (cites (w .need))) s))
