@@ -9,4 +9,5 @@ pub mod Folds
 pub mod Asked
 pub mod Found
 pub mod SheetLines
+pub mod Ends
 pub mod Whole
