@@ -61,11 +61,11 @@ module _ (t : Tables) (n a : ℕ) (start : Sheet) (fresh : numberIn start ≡ 0)
   abbrev v : Moves
   v = movesIn (t .values) (t .starts) (t .marks) (t .firsts) (t .counts) (t .targets) (t .lows) (t .highs) n
 
-  abbrev notes : List Entry → Sheet
+  abbrev pub notes : List Entry → Sheet
   notes es = notesIn a start es
 
   -- how a search from `chosen` ends, that has left the sheet `s` if it found nothing
-  abbrev Ends : (chosen : List ℕ) → (s : Sheet) → Option (List ℕ) → Walked → Type 0
+  abbrev pub Ends : (chosen : List ℕ) → (s : Sheet) → Option (List ℕ) → Walked → Type 0
   Ends ch s none w = (w .found ≡ false) × ((w .choices .chosen ≡ ch) × (w .sheet ≡ s))
   Ends ch s (some x) w = (w .found ≡ true) × (w .choices .chosen ≡ x)
 
@@ -222,8 +222,12 @@ module _ (t : Tables) (n a : ℕ) (start : Sheet) (fresh : numberIn start ≡ 0)
       by false e goes =
           let long = length-append es (cites (w .need) ∷ []) in
           let number : notes asks .noted .over ≡ false → numberIn (notes es) ≡ length es = λ o.
-            omega (arith, fresh, exact a start es (room-before a (notes es) (cites (w .need) ∷ [])
-            (subst (λ (x : Sheet). x .noted .over ≡ false) (notes-append a start es (cites (w .need) ∷ [])) o))) in
+          omega (
+            arith,
+            fresh,
+            exact a start es (room-before a (notes es) (cites (w .need) ∷ [])
+                (subst (λ (x : Sheet). x .noted .over ≡ false) (notes-append a start es (cites (w .need) ∷ [])) o)),
+          ) in
           subst (λ (x : List Entry). Ends ch (notes x) found begun) (append-assoc es (cites (w .need) ∷ []) rest)
           (each-law (walkIn f v a) (findFrom f t n) (linesIn f t n) goes ch w (wanted-unset (t .starts) (t .marks) (t .targets) ch n (eqb-false _ _ e))
           (triesIn t (w .owner .0)) (choices ch w) refl asks _ (sym (notes-last a start es (cites (w .need)))) (numberIn (notes es)) (length es) number

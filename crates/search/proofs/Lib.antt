@@ -11,3 +11,4 @@ pub mod Found
 pub mod SheetLines
 pub mod Ends
 pub mod Whole
+pub mod Searched
