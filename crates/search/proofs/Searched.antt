@@ -101,7 +101,10 @@ module _ (t : Tables) (c : Catalogue) (holds : Holds t c) (w : WellFormed c) (fe
       ended .sheet ≡ sheet (sets area 0 (flatMap entryText lines)) (noted (length lines) (length (flatMap entryText lines)) false)
   unfolding isRefuting
   search-sheet k e l most room =
+      let count : 0 + length lines ≡ length lines = omega arith in
+      let size : 0 + length (linesText lines) ≡ length (linesText lines) = omega arith in
       search-fails e .1 ∙ all-noted a fresh lines (record { before = refl; allowed = omega arith; fits = omega arith }) ∙
+      ap₂ (λ (x y : ℕ). sheet (sets area 0 (linesText lines)) (noted x y false)) count size ∙
       ap (λ (x : List ℕ). sheet (sets area 0 x) (noted (length lines) (length x) false)) (lines-noted c k 0 lines (omega arith) fit)
     where
       fit : entriesFit c 0 lines ≡ true
