@@ -1,1 +1,4 @@
 -- Lemmas that the proofs of this crate share, and the laws of rows.
+pub mod Building
+pub mod Words
+pub mod Told
