@@ -2,3 +2,5 @@
 pub mod Building
 pub mod Words
 pub mod Told
+pub mod Halving
+pub mod Standing

@@ -3,7 +3,6 @@ use mathlib.Core.Path.{_≡_}
 use mathlib.Core.Logic.{_≢_}
 use mathlib.Core.List.{List}
 use Prim.Native.Nat.{ℕ, _<_}
-use lib.ListN.{length}
 use Rattle.rules.specs.Catalogue.{Catalogue, WellFormed}
 use Rattle.rules.specs.Sheet.{Incompatibility, needLine, resolved, refutes}
 use Rattle.store.specs.Tables.{Holds}
@@ -15,8 +14,7 @@ use Rattle.rows.specs.Stands.{Stands, HasRow, Narrow}
 
 -- the row of need line k stands for it
 abbrev pub NeedStands : Type 0
-NeedStands = (t : Tables) (c : Catalogue) → Holds t c → WellFormed c → Narrow t c → (area : List ℕ) (row number : ℕ) →
-    HasRow area row → number < length (c .needs) →
+NeedStands = (t : Tables) (c : Catalogue) → Holds t c → Narrow t c → (area : List ℕ) (row number : ℕ) → HasRow area row →
     Stands t c
     (needRow area row (t .values) (t .owners) (t .firsts) (t .counts) (t .needies) (t .targets) (t .lows) (t .highs) (c .modules) number)
     row (needLine c number)
