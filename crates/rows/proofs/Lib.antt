@@ -4,3 +4,6 @@ pub mod Words
 pub mod Told
 pub mod Halving
 pub mod Standing
+pub mod NeedLines
+pub mod Resolutions
+pub mod Refuting
