@@ -1,7 +1,6 @@
 -- Over tables that hold a catalogue the row of a need line stands for the line (`need-stands`). Assumes nothing.
 use mathlib.Core.Path.{_≡_, sym, _∙_, ap}
 use mathlib.Core.Bool.{Bool, true, false, not, cond}
-use mathlib.Core.List.{List}
 use Prim.Native.Nat.{ℕ, suc, _+_, _≤_, _<_}
 use native.Mathlib.Omega.{arith}
 use borrow.Author.Tests.{ne-eqb}
@@ -14,8 +13,8 @@ use Rattle.store.specs.Tables.{Holds}
 use Rattle.store.specs.declared.tables.Tables.{Tables}
 use Rattle.rows.specs.Bits.{hasBit, marks}
 use Rattle.rows.specs.Area.{absentWord}
-use Rattle.rows.specs.Needed.{citedIn, needBit, needVersions, needAbsent, needWord}
-use Rattle.rows.specs.Stands.{Narrow, HasRow}
+use Rattle.rows.specs.Needed.{citedIn, needBit, needVersions, needWord}
+use Rattle.rows.specs.Stands.{Narrow}
 use Rattle.rows.specs.Laws.{NeedStands}
 use Rattle.rows.specs.declared.needed.Cited.{Cited}
 use Rattle.rows.proofs.Standing.{row-bit, row-no-bit, built-bit, no-built-bit}

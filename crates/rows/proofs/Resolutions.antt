@@ -1,7 +1,6 @@
 -- The row of a resolved line stands for the line where the rows of both earlier lines do (`resolved-stands`). Assumes nothing.
 use mathlib.Core.Path.{_≡_, refl, sym, _∙_, ap, ap₂}
 use mathlib.Core.Bool.{Bool, true, false, _&&_, _||_, cond, and-false, or-true}
-use mathlib.Core.List.{List}
 use Prim.Native.Nat.{ℕ, _<_}
 use native.Mathlib.Omega.{arith}
 use borrow.Author.Tests.{ne-eqb}
@@ -52,7 +51,7 @@ version-bit m x y k j l = ap (λ (z : ℕ). hasBit z j) (cond-false _ _ (ne-eqb 
 -- THE LAW
 pub resolved-stands : ResolvedStands
 unfolding resolved
-resolved-stands t c narrow area row one other at f g fits h s u =
+resolved-stands t c narrow area row one other at f g fits s u =
     record {
       absent = λ m l.
           row-bit area row words fits absentWord m (omega arith) (few m l) ∙

@@ -1,5 +1,5 @@
 -- Words and rows of an area: what is read after a word or a row is written, and a row written word by word. Assumes nothing.
-use mathlib.Core.Path.{_≡_, refl, sym, _∙_, ap, ap₂}
+use mathlib.Core.Path.{_≡_, refl, _∙_, ap}
 use mathlib.Core.Logic.{_≢_, ⊎-elim}
 use mathlib.Core.List.{List}
 use Prim.Native.Nat.{ℕ, zero, suc, _+_, _*_, _/_, _%_, _≤_, _<_}
@@ -27,8 +27,12 @@ byte-other l r j x i n0 n1 n2 n3 = simp getD-set-other
 word-other : (l : List ℕ) (r j x q k : ℕ) → byteOf q k ≢ byteOf r j → wordAt (withWord l r j x) q k ≡ wordAt l q k
 unfolding wordAt
 word-other l r j x q k n =
-    rw (kept at (omega arith) (omega arith), kept (at + 1) (omega arith) (omega arith), kept (at + 2) (omega arith) (omega arith),
-    kept (at + 3) (omega arith) (omega arith))
+    rw (
+      kept at (omega arith) (omega arith),
+      kept (at + 1) (omega arith) (omega arith),
+      kept (at + 2) (omega arith) (omega arith),
+      kept (at + 3) (omega arith) (omega arith),
+    )
   where
     at : ℕ
     at = byteOf q k

@@ -2,7 +2,7 @@
 use mathlib.Core.Path.{_≡_}
 use mathlib.Core.Logic.{_≢_}
 use mathlib.Core.List.{List}
-use Prim.Native.Nat.{ℕ, _<_}
+use Prim.Native.Nat.{ℕ}
 use Rattle.rules.specs.Catalogue.{Catalogue, WellFormed}
 use Rattle.rules.specs.Sheet.{Incompatibility, needLine, resolved, refutes}
 use Rattle.store.specs.Tables.{Holds}
@@ -22,7 +22,7 @@ NeedStands = (t : Tables) (c : Catalogue) → Holds t c → Narrow t c → (area
 -- the row of a resolved line stands for it, where the rows of both earlier lines stand for those
 abbrev pub ResolvedStands : Type 0
 ResolvedStands = (t : Tables) (c : Catalogue) → Narrow t c → (area : List ℕ) (row one other at : ℕ) (f g : Incompatibility) →
-    HasRow area row → at < c .modules → Stands t c area one f → Stands t c area other g →
+    HasRow area row → Stands t c area one f → Stands t c area other g →
     Stands t c (resolvedRow area row one other at) row (resolved at f g)
 
 -- writing a row leaves what another row stands for

@@ -9,6 +9,7 @@ pub const WORDS: u16 = 33;
 pub const ABSENT: u16 = 32;
 // Bytes of a row, and of a word.
 pub const ROW_BYTES: usize = 132;
+
 pub const WORD_BYTES: usize = 4;
 
 fn byte_at(area: &[u8], i: usize) -> u8

@@ -1,7 +1,7 @@
 -- Past the end of a list `getD` gives its default. Assumes nothing.
+use mathlib.Core.Path.{sym}
 use borrow.Author.Needs.{needs}
 use lib.ListN.{List·getD-eq-default}
-use mathlib.Core.Path.{sym}
 use Rattle.rows.proofs.area.byte_at.Statement.{statement}
 use Rattle.rows.proofs.area.byte_at.Tie as tie
 

@@ -1,7 +1,7 @@
 -- Past the end of a list `set` changes nothing. Assumes nothing.
+use mathlib.Core.Path.{sym}
 use borrow.Author.Needs.{needs}
 use lib.Seq.{set-out}
-use mathlib.Core.Path.{sym}
 use Rattle.rows.proofs.area.put_byte.Statement.{statement}
 use Rattle.rows.proofs.area.put_byte.Tie as tie
 

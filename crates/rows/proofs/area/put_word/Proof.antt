@@ -1,6 +1,6 @@
 -- The four bytes are stored one behind the other. Assumes nothing.
-use Rattle.rows.specs.Area.{withWord}
 use borrow.Author.Needs.{needs}
+use Rattle.rows.specs.Area.{withWord}
 use Rattle.rows.proofs.area.put_word.Statement.{statement}
 use Rattle.rows.proofs.area.put_word.Tie as tie
 

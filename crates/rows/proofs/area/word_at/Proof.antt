@@ -1,6 +1,6 @@
 -- The four bytes make the word. Assumes nothing.
-use Rattle.rows.specs.Area.{wordAt}
 use borrow.Author.Needs.{needs}
+use Rattle.rows.specs.Area.{wordAt}
 use Rattle.rows.proofs.area.word_at.Statement.{statement}
 use Rattle.rows.proofs.area.word_at.Tie as tie
 

@@ -1,8 +1,8 @@
 -- `rows::bits::has_bit` meets its contract. The loop's invariant: bit `k` of what is left is the bit that is asked for. Assumes nothing.
-use Rattle.rows.proofs.Building.{bit-half, bit-last}
-use Rattle.rows.specs.Bits.{hasBit}
-use borrow.Author.Needs.{needs}
 use mathlib.Core.Path.{_≡_, refl, _∙_, sym}
+use borrow.Author.Needs.{needs}
+use Rattle.rows.specs.Bits.{hasBit}
+use Rattle.rows.proofs.Building.{bit-half, bit-last}
 use Rattle.rows.proofs.bits.has_bit.Statement.{statement}
 use Rattle.rows.proofs.bits.has_bit.Tie as tie
 

@@ -1,7 +1,7 @@
 -- The test picks the answer. Assumes nothing.
-use Rattle.rules.proofs.Lists.{cond-true, cond-false}
-use borrow.Author.Tests.{eq-eqb, ne-eqb}
 use mathlib.Core.Path.{sym}
+use borrow.Author.Tests.{eq-eqb, ne-eqb}
+use Rattle.rules.proofs.Lists.{cond-true, cond-false}
 use Rattle.rows.proofs.bits.mark.Statement.{statement}
 use Rattle.rows.proofs.bits.mark.Tie as tie
 

@@ -1,9 +1,9 @@
 -- `rows::bits::marked` meets its contract. The loop's invariant: the bits from `k` on are built. Assumes nothing.
-use Rattle.rows.proofs.Building.{Built, digit-small, in-word-small, none-built, has-room, bit-built, all-built}
-use Rattle.rows.specs.Bits.{inWord, marks}
-use borrow.Author.Needs.{needs}
 use mathlib.Core.Path.{refl}
 use native.Mathlib.Omega.{arith}
+use borrow.Author.Needs.{needs}
+use Rattle.rows.specs.Bits.{inWord, marks}
+use Rattle.rows.proofs.Building.{Built, digit-small, in-word-small, none-built, has-room, bit-built, all-built}
 use Rattle.rows.proofs.bits.marked.Statement.{statement}
 use Rattle.rows.proofs.bits.marked.Tie as tie
 

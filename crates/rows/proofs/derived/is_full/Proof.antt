@@ -1,6 +1,6 @@
 -- What the calls tell makes the test. Assumes nothing.
-use Rattle.rows.proofs.Told.{full-told}
 use borrow.Author.Needs.{needs}
+use Rattle.rows.proofs.Told.{full-told}
 use Rattle.rows.proofs.derived.is_full.Statement.{statement}
 use Rattle.rows.proofs.derived.is_full.Tie as tie
 

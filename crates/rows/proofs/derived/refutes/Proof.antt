@@ -1,9 +1,9 @@
 -- `rows::derived::refutes` meets its contract. The loop's invariant: whether all modules pass is whether those from `m` on do. Assumes nothing.
 use Prim.Native.Nat.{_-_}
-use Rattle.rows.proofs.Building.{Passed, none-passed, one-passed, one-failed, all-passed}
-use Rattle.rows.proofs.Told.{rootOrFull, module-passed, module-failed, root-told, modules-told}
 use borrow.Author.Needs.{needs}
 use borrow.Author.Tests.{not-true, not-false}
+use Rattle.rows.proofs.Building.{Passed, none-passed, one-passed, one-failed, all-passed}
+use Rattle.rows.proofs.Told.{rootOrFull, module-passed, module-failed, root-told, modules-told}
 use Rattle.rows.proofs.derived.refutes.Statement.{statement}
 use Rattle.rows.proofs.derived.refutes.Tie as tie
 
@@ -39,7 +39,7 @@ returns-2 c =
     let given = word .before .before .before .args in
     modules-told (given .work .now) (given .row) (given .counts .now) (given .modules) (word .word-at .ensures)
     (turn .before .before .before .has-bit .ensures) (not-false _ (turn .before .before .if1 .left))
-    (one-failed _ _ (turn .before .loop .inv) (turn .loop-test .taken) 
+    (one-failed _ _ (turn .before .loop .inv) (turn .loop-test .taken)
     (module-failed (given .work .now) (given .row) (given .counts .now) (turn .before .loop .m) (c .before .is-full .ensures) (c .if2 .taken)))
 
 add-m : tie.Need-add-m Inv-loop μ-loop
@@ -52,7 +52,7 @@ loop-again : tie.Need-loop-again Inv-loop μ-loop
 loop-again c =
     let turn = c .before .before in
     let given = turn .before .before .before .before .before .before .before .args in
-    one-passed _ _ (turn .before .loop .inv) (turn .loop-test .taken) 
+    one-passed _ _ (turn .before .loop .inv) (turn .loop-test .taken)
     (module-passed (given .work .now) (given .row) (given .counts .now) (turn .before .loop .m) (c .before .is-full .ensures) (c .if2 .left))
 
 returns-3 : tie.Need-returns-3 Inv-loop μ-loop

@@ -1,11 +1,11 @@
 -- `rows::derived::resolved_row` meets its contract. The loop's invariant: the first `j` words of the row are written; word `j` of both lines
 -- is still as it was. Assumes nothing.
+use mathlib.Core.Path.{_∙_}
 use Prim.Native.Nat.{_-_}
-use Rattle.rows.proofs.Words.{Filled, none-filled, word-filled, all-filled, not-yet}
+use borrow.Author.Needs.{needs}
 use Rattle.rows.specs.Area.{wordAt}
 use Rattle.rows.specs.Derived.{resolvedWord}
-use borrow.Author.Needs.{needs}
-use mathlib.Core.Path.{_∙_}
+use Rattle.rows.proofs.Words.{Filled, none-filled, word-filled, all-filled, not-yet}
 use Rattle.rows.proofs.Told.{resolved-told}
 use Rattle.rows.proofs.derived.resolved_row.Statement.{statement}
 use Rattle.rows.proofs.derived.resolved_row.Tie as tie

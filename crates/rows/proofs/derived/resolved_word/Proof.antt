@@ -1,8 +1,8 @@
 -- The word of absent, the word of the module resolved at, and every other. Assumes nothing.
-use Rattle.rules.proofs.Lists.{cond-true, cond-false}
+use mathlib.Core.Path.{sym, _∙_}
 use borrow.Author.Needs.{needs}
 use borrow.Author.Tests.{eq-eqb, ne-eqb}
-use mathlib.Core.Path.{sym, _∙_}
+use Rattle.rules.proofs.Lists.{cond-true, cond-false}
 use Rattle.rows.proofs.Told.{absent-told}
 use Rattle.rows.proofs.derived.resolved_word.Statement.{statement}
 use Rattle.rows.proofs.derived.resolved_word.Tie as tie

@@ -1,6 +1,6 @@
 -- The need is put together from the tables. Assumes nothing.
-use Rattle.rows.proofs.Told.{cited-told}
 use borrow.Author.Needs.{needs}
+use Rattle.rows.proofs.Told.{cited-told}
 use Rattle.rows.proofs.needed.cited_at.Statement.{statement}
 use Rattle.rows.proofs.needed.cited_at.Tie as tie
 
@@ -24,9 +24,11 @@ word-at-requires-2 c κs = search needs
 
 returns : tie.Need-returns
 returns c =
-    let given = c .before .before .before .before .before .before .before .before .before .before .args in
+    let named = c .before .before in
+    let owned = named .before in
+    let given = owned .before .before .before .before .before .before .before .args in
     cited-told (given .owners .now) (given .needies .now) (given .targets .now) (given .lows .now) (given .highs .now) (given .k)
-    (c .before .before .before .before .half-at .ensures) (c .before .before .before .half-at2 .ensures) (c .before .before .half-at3 .ensures) (c .before .word-at .ensures) (c .word-at2 .ensures)
+    (owned .before .half-at .ensures) (owned .half-at2 .ensures) (named .half-at3 .ensures) (c .before .word-at .ensures) (c .word-at2 .ensures)
 
 pub cited-at-spec : {M : Type 1} → statement M
 cited-at-spec =

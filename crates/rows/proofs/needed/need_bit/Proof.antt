@@ -1,10 +1,10 @@
 -- The needing module, the needed module, and every other. Assumes nothing.
-use Rattle.rules.specs.Catalogue.{isWithin}
-use Rattle.rules.proofs.Lists.{cond-true, cond-false}
-use borrow.Author.Needs.{needs}
-use borrow.Author.Tests.{eq-eqb, ne-eqb}
 use mathlib.Core.Bool.{not}
 use mathlib.Core.Path.{sym, _∙_, ap}
+use borrow.Author.Needs.{needs}
+use borrow.Author.Tests.{eq-eqb, ne-eqb}
+use Rattle.rules.specs.Catalogue.{isWithin}
+use Rattle.rules.proofs.Lists.{cond-true, cond-false}
 use Rattle.rows.proofs.needed.need_bit.Statement.{statement}
 use Rattle.rows.proofs.needed.need_bit.Tie as tie
 
@@ -22,9 +22,10 @@ is-within-requires c κs = search needs
 
 returns-2 : tie.Need-returns-2
 returns-2 c =
-    ap not (c .is-within .ensures ∙ ap (isWithin _ _) (c .before .before .before .word-at .ensures)) ∙
-    sym (cond-false _ _ (ne-eqb _ _ (c .before .before .before .before .before .before .before .before .if1 .left)) ∙
-    cond-true _ _ (eq-eqb _ _ (c .before .before .before .before .if2 .taken)))
+    let read = c .before .before .before in
+    let needed = read .before in
+    ap not (c .is-within .ensures ∙ ap (isWithin _ _) (read .word-at .ensures)) ∙
+    sym (cond-false _ _ (ne-eqb _ _ (needed .before .before .before .before .if1 .left)) ∙ cond-true _ _ (eq-eqb _ _ (needed .if2 .taken)))
 
 returns-3 : tie.Need-returns-3
 returns-3 c = sym (cond-false _ _ (ne-eqb _ _ (c .before .before .before .before .if1 .left)) ∙ cond-false _ _ (ne-eqb _ _ (c .if2 .left)))

@@ -1,6 +1,6 @@
 -- The row of the need cited is the row of the need line. Assumes nothing.
-use Rattle.rows.proofs.Told.{row-told}
 use borrow.Author.Needs.{needs}
+use Rattle.rows.proofs.Told.{row-told}
 use Rattle.rows.proofs.needed.need_row.Statement.{statement}
 use Rattle.rows.proofs.needed.need_row.Tie as tie
 

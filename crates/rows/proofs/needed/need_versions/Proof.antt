@@ -1,10 +1,10 @@
 -- `rows::needed::need_versions` meets its contract. The loop's invariant: the bits from `k` on are built. Assumes nothing.
-use Rattle.rows.proofs.Building.{Built, digit-small, in-word-small, none-built, has-room, bit-built, all-built}
-use Rattle.rows.specs.Bits.{inWord}
-use Rattle.rows.specs.Needed.{needBit}
-use borrow.Author.Needs.{needs}
 use mathlib.Core.Path.{refl, ap}
 use native.Mathlib.Omega.{arith}
+use borrow.Author.Needs.{needs}
+use Rattle.rows.specs.Bits.{inWord}
+use Rattle.rows.specs.Needed.{needBit}
+use Rattle.rows.proofs.Building.{Built, digit-small, in-word-small, none-built, has-room, bit-built, all-built}
 use Rattle.rows.proofs.needed.need_versions.Statement.{statement}
 use Rattle.rows.proofs.needed.need_versions.Tie as tie
 
@@ -46,7 +46,8 @@ need-bit-requires c κs = search needs
 
 mul-word : tie.Need-mul-word Inv-loop μ-loop
 mul-word c =
-    let room = has-room _ _ _ (c .before .before .loop .inv) (c .before .loop-test .taken) (in-word-small _) in
+    let turn = c .before in
+    let room = has-room _ _ _ (turn .before .loop .inv) (turn .loop-test .taken) (in-word-small _) in
     omega arith
 
 digit-of-requires : tie.Need-digit-of-requires Inv-loop μ-loop
@@ -54,7 +55,8 @@ digit-of-requires c κs = search needs
 
 add-word : tie.Need-add-word Inv-loop μ-loop
 add-word c =
-    let room = has-room _ _ _ (c .before .before .before .loop .inv) (c .before .before .loop-test .taken) (in-word-small _) in
+    let turn = c .before .before in
+    let room = has-room _ _ _ (turn .before .loop .inv) (turn .loop-test .taken) (in-word-small _) in
     let bit = digit-small (c .before .need-bit .result) in
     omega arith
 

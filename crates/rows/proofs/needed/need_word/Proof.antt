@@ -1,8 +1,8 @@
 -- The word of absent, and the word of a module. Assumes nothing.
-use Rattle.rules.proofs.Lists.{cond-true, cond-false}
+use mathlib.Core.Path.{sym, _∙_}
 use borrow.Author.Needs.{needs}
 use borrow.Author.Tests.{eq-eqb, ne-eqb}
-use mathlib.Core.Path.{sym, _∙_}
+use Rattle.rules.proofs.Lists.{cond-true, cond-false}
 use Rattle.rows.proofs.needed.need_word.Statement.{statement}
 use Rattle.rows.proofs.needed.need_word.Tie as tie
 

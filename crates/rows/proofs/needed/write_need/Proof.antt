@@ -1,8 +1,8 @@
 -- `rows::needed::write_need` meets its contract. The loop's invariant: the first `j` words of the row are written. Assumes nothing.
 use Prim.Native.Nat.{_-_}
-use Rattle.rows.proofs.Words.{Filled, none-filled, word-filled, all-filled}
-use Rattle.rows.specs.Needed.{needWord}
 use borrow.Author.Needs.{needs}
+use Rattle.rows.specs.Needed.{needWord}
+use Rattle.rows.proofs.Words.{Filled, none-filled, word-filled, all-filled}
 use Rattle.rows.proofs.needed.write_need.Statement.{statement}
 use Rattle.rows.proofs.needed.write_need.Tie as tie
 
