@@ -1,6 +1,7 @@
 -- Lemmas that the proofs of this crate share, and what its answers mean by the rules.
 pub mod Newest
 pub mod Notes
+pub mod NotedLines
 pub mod Walks
 pub mod Scans
 pub mod Barring

@@ -15,6 +15,9 @@ pub neither : (a b : Bool) → (a || b) ≡ false → (a ≡ false) × (b ≡ fa
 neither true b e = absurd (not-both refl e)
 neither false b e = (refl, e)
 
+pub or-neither : (a b : Bool) → a ≡ false → b ≡ false → (a || b) ≡ false
+or-neither a b e f = rw (e, f)
+
 module _ (a : ℕ) (bs : List ℕ) (s : Sheet) where
   pub note-over : isOver a s ≡ true → noteIn a bs s ≡ sheet (s .area) (noted (s .noted .lines) (s .noted .end) true)
   unfolding noteIn

@@ -6,7 +6,7 @@ use mathlib.Core.List.{List}
 use Prim.Native.Nat.{ℕ, zero, suc, _+_, _-_, _≤_, _<_}
 use native.Mathlib.Omega.{arith}
 use native.Mathlib.Nat.{not-suc-le-zero}
-use lib.ListN.{length, set}
+use lib.ListN.{length, set, replicate}
 use borrow.Author.Tests.{eq-eqb, ne-eqb}
 use Rattle.rules.specs.Sheet.{cites, resolves}
 use Rattle.rules.proofs.Lists.{cond-true, cond-false}
@@ -16,9 +16,9 @@ use Rattle.search.specs.declared.walk.Found.{Found}
 use Rattle.search.specs.declared.wanted.Wanted.{Wanted}
 use Rattle.search.specs.Choosing.{choices, falling}
 use Rattle.search.specs.Scan.{noNumber}
-use Rattle.search.specs.Wanted.{noModule}
+use Rattle.search.specs.Wanted.{noModule, noneWanted}
 use Rattle.search.specs.Noting.{Sheet, sheet, noteIn, numberIn, entryBytes}
-use Rattle.search.specs.Walking.{Moves, Walked, walked, told, tryWalk, eachWalk, walkIn}
+use Rattle.search.specs.Walking.{Moves, Walked, walked, told, tryWalk, eachWalk, walkIn, started}
 
 -- WHAT A CALL TELLS beside the work area, and the work area, are what it ends with
 pub noted-is : {x : Sheet} {area : List ℕ} {n : Noted} → n ≡ x .noted → area ≡ x .area → sheet area n ≡ x
@@ -31,6 +31,11 @@ ended-is e f = rw (e, f)
 -- and the other way round
 pub both-told : {x y : Walked} → x ≡ y → (told x ≡ told y) × (x .sheet .area ≡ y .sheet .area)
 both-told e = (ap told e, ap (λ (x : Walked). x .sheet .area) e)
+
+-- THE START: what is chosen first, of nothing, at the root's place
+pub start-is : {i j : ℕ} {nothing root : Choices} → nothing ≡ choices (replicate 32 0) noneWanted → i ≡ j →
+    root ≡ choices (set (nothing .chosen) 0 (suc i)) (nothing .next) → root ≡ started j
+start-is n e r = r ∙ rw (n, e)
 
 module _ (v : Moves) (a : ℕ) where
   -- A TRIAL: barred, found, failed

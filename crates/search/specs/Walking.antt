@@ -3,15 +3,15 @@ use mathlib.Core.Bool.{Bool, true, false, cond}
 use mathlib.Core.List.{List, [], _∷_}
 use Prim.Native.Nat.{ℕ, zero, suc, _+_, _-_, _≤_}
 use lib.Dec.{eqb}
-use lib.ListN.{getD, set}
+use lib.ListN.{getD, set, replicate}
 use Rattle.rules.specs.Sheet.{cites, resolves}
 use Rattle.search.specs.declared.choices.Choices.{Choices}
 use Rattle.search.specs.declared.walk.Found.{Found}
 use Rattle.search.specs.declared.wanted.Wanted.{Wanted}
 use Rattle.search.specs.Choosing.{choices, falling}
 use Rattle.search.specs.Scan.{noNumber, scanIn, overIn}
-use Rattle.search.specs.Wanted.{noModule, wantedIn}
-use Rattle.search.specs.Noting.{Sheet, noteIn, numberIn, entryBytes}
+use Rattle.search.specs.Wanted.{noModule, noneWanted, wantedIn}
+use Rattle.search.specs.Noting.{Sheet, sheet, noted, noteIn, numberIn, entryBytes}
 
 -- what a search asks of the tables: the need that bars a trial, the module that is wanted next, and a module's versions in the order of their trials
 pub record Moves : Type 0 where
@@ -70,3 +70,10 @@ walkIn zero v a r s = walked true r s
 walkIn (suc f) v a r s = let w = v .next (r .chosen) in
     cond (eqb (w .owner .0) noModule) (walked true (choices (r .chosen) w) s)
     (eachWalk v a (walkIn f v a) w (numberIn s) (v .tries (w .owner .0)) (choices (r .chosen) w) (noteIn a (entryBytes (cites (w .need))) s))
+
+-- A WHOLE SEARCH, from the root's first version on, with no line noted yet
+abbrev pub started : (root : ℕ) → Choices
+started i = choices (set (replicate 32 0) 0 (suc i)) noneWanted
+
+abbrev pub searchIn : Moves → (modules allowance root : ℕ) → (area : List ℕ) → Walked
+searchIn v n a i area = walkIn n v a (started i) (sheet area (noted 0 0 false))
