@@ -9,4 +9,6 @@ pub mod Folds
 pub mod Asked
 pub mod Found
 pub mod SheetLines
+pub mod Ends
 pub mod Whole
+pub mod Searched

@@ -17,12 +17,12 @@ use Rattle.frames.proofs.Areas.{sets-append}
 use Rattle.search.specs.Noting.{Sheet, sheet, noted, numberIn, entryBytes, isOver, noteIn}
 use Rattle.search.proofs.Notes.{neither, or-neither, note-over, note-room}
 
-pub notesIn : (allowance : ℕ) → Sheet → List Entry → Sheet
+unfoldable pub notesIn : (allowance : ℕ) → Sheet → List Entry → Sheet
 notesIn a s [] = s
 notesIn a s (e ∷ es) = notesIn a (noteIn a (entryBytes e) s) es
 
 -- the text of lines as noted
-pub linesText : List Entry → List ℕ
+unfoldable pub linesText : List Entry → List ℕ
 linesText es = flatMap (λ (e : Entry). frameText (entryBytes e)) es
 
 module _ (a : ℕ) where
