@@ -1,7 +1,7 @@
 -- How place and trial end, by what is found and by the lines that are left (`walk-law`): a success has the choices found; from a failure the choices
 -- come back as they were, and the lines are noted behind those before. Assumes nothing.
 use mathlib.Core.Path.{_≡_, refl, sym, _∙_, ap, ap₂, subst}
-use mathlib.Core.Logic.{⊎-elim, _⊎_, inl, inr, _≢_}
+use mathlib.Core.Logic.{⊎-elim, _⊎_, _≢_}
 use mathlib.Core.Bool.{Bool, true, false, _&&_, cond}
 use mathlib.Core.List.{List, [], _∷_, _++_, append-assoc, append-nil}
 use mathlib.Core.Option.{Option, none, some}
@@ -18,7 +18,7 @@ use Rattle.search.specs.declared.choices.Choices.{Choices}
 use Rattle.search.specs.declared.wanted.Wanted.{Wanted}
 use Rattle.search.specs.Choosing.{choices}
 use Rattle.search.specs.Scan.{noNumber}
-use Rattle.search.specs.Wanted.{noModule, wantedBy, noneWanted, betterIn, foldIn, wantedState, wantedAt, wantedIn}
+use Rattle.search.specs.Wanted.{noModule, wantedBy, noneWanted, betterIn, foldIn, wantedState, wantedIn}
 use Rattle.search.specs.Finding.{barringIn, nextIn, triesIn, ifNone, tryIn, findEach, findFrom, tryLines, eachLines, linesIn}
 use Rattle.search.specs.Noting.{Sheet, sheet, noteIn, numberIn, entryBytes}
 use Rattle.search.specs.Walking.{Moves, movesIn, Walked, walked, takenBack, tryWalk, eachWalk, walkIn}
@@ -136,7 +136,8 @@ module _ (t : Tables) (n a : ℕ) (start : Sheet) (fresh : numberIn start ≡ 0)
       -- and its number is exact where there is room
       line-number : (s : Sheet) → s ≡ notes (es ++ ls) → notes behind .noted .over ≡ false → numberIn s ≡ j + length ls
       line-number s e o =
-          let before = room-before a (notes (es ++ ls)) (line ∷ []) (subst (λ (x : Sheet). x .noted .over ≡ false) (notes-append a start (es ++ ls) (line ∷ [])) o) in
+          let before = room-before a (notes (es ++ ls)) (line ∷ [])
+          (subst (λ (x : Sheet). x .noted .over ≡ false) (notes-append a start (es ++ ls) (line ∷ [])) o) in
           let number = exact a start (es ++ ls) before in
           let is = ap numberIn e in
           let long = length-append es ls in
@@ -185,7 +186,8 @@ module _ (t : Tables) (n a : ℕ) (start : Sheet) (fresh : numberIn start ≡ 0)
             (subst (λ (x : List Entry). Ends ch (notes x) (findEach t n find ch m is)
             (eachWalk v a go w (numberIn (u .sheet)) is (u .choices) (noteIn a (entryBytes (resolves k (numberIn (u .sheet) - 1) m)) (u .sheet))))
             (behind-more es ls k l j q same rest)
-            (go-on (u .choices) (h .1 .0) (behind es ls k l j q same) _ (line-noted es ls k l j q same (u .sheet) (h .1 .1)) (numberIn (u .sheet)) (j + length ls)
+            (go-on (u .choices) (h .1 .0) (behind es ls k l j q same) _ (line-noted es ls k l j q same (u .sheet) (h .1 .1))
+            (numberIn (u .sheet)) (j + length ls)
             (line-number es ls k l j q same (u .sheet) (h .1 .1)) (suc (j + length ls)) (behind-length es ls k l j q same)))
 
   -- A PLACE and all that follows

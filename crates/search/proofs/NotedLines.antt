@@ -1,5 +1,6 @@
 -- Many lines noted one behind the other: which lines they are no longer matters once there is no room (`over-stays`), and as long as there is, the
--- number of lines is exact (`exact`). What lines with room leave is their text (`all-noted`); more lines than the allowance are told (`too-many`). Assumes nothing.
+-- number of lines is exact (`exact`). What lines with room leave is their text (`all-noted`); more lines than the allowance are told (`too-many`).
+-- Assumes nothing.
 use mathlib.Core.Path.{_≡_, refl, sym, _∙_, ap, ap₂}
 use mathlib.Core.Logic.{⊎-elim}
 use mathlib.Core.Bool.{Bool, true, false}
@@ -130,7 +131,8 @@ module _ (a : ℕ) where
       step : ((t : Sheet) → Room t (length es) → notesIn a t es ≡
           sheet (sets (t .area) (t .noted .end) (linesText es)) (noted (numberIn t + length es) (t .noted .end + length (linesText es)) false)) →
           notesIn a (noteIn a bs s) es ≡
-          sheet (sets (s .area) (s .noted .end) (line ++ linesText es)) (noted (numberIn s + suc (length es)) (s .noted .end + length (line ++ linesText es)) false)
+          sheet (sets (s .area) (s .noted .end) (line ++ linesText es))
+          (noted (numberIn s + suc (length es)) (s .noted .end + length (line ++ linesText es)) false)
       step rest =
           let long = frame-length bs in
           let both = length-append line (linesText es) in

@@ -21,7 +21,7 @@ use Rattle.rules.proofs.Theorems.{sheets-tell}
 use Rattle.store.specs.Tables.{Holds}
 use Rattle.store.specs.declared.tables.Tables.{Tables}
 use Rattle.search.specs.Scan.{noNumber}
-use Rattle.search.specs.Finding.{startIn, findFrom, linesIn}
+use Rattle.search.specs.Finding.{startIn, findFrom}
 use Rattle.search.specs.Noting.{Sheet, sheet, noted, entryBytes}
 use Rattle.search.specs.Walking.{Moves, movesIn, Walked, started, searchIn}
 use Rattle.search.proofs.NotedLines.{notesIn, linesText, too-many, all-noted}

@@ -1,6 +1,5 @@
 // The lines of a sheet, noted in the work area while it isn't known yet whether there is a selection.
 ghost use mathlib.Core.Path.{_≡_};
-ghost use mathlib.Core.List.{_∷_, []};
 ghost use Prim.Native.Nat.{_-_, _≤_};
 ghost use lib.ListN.{length};
 ghost use Rattle.rules.specs.Sheet.{cites, resolves};

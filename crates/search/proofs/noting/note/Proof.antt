@@ -12,30 +12,43 @@ left-behind-requires c κs = search needs
 
 returns : tie.Need-returns
 returns c =
-    let given = c .before .before .before .before .before .before .args in
-    let same = told-over (given .allowance) (sheet (given .work .now) (given .n)) (c .before .before .before .left-behind .ensures) (given .bytes .now) (c .if1 .taken) in
+    let at-left-behind = c .before .before .before in
+    let at-entry = at-left-behind .before .before .before in
+    let given = at-entry .args in
+    let same = told-over (given .allowance) (sheet (given .work .now) (given .n)) (at-left-behind .left-behind .ensures) (given .bytes .now)
+    (c .if1 .taken) in
     (ap (λ (s : Sheet). s .noted) same, ap (λ (s : Sheet). s .area) same)
 
 write-frame-requires : tie.Need-write-frame-requires
 write-frame-requires c κs =
-    let given = c .before .before .before .before .before .before .before .args in
-    let room = has-room (given .allowance) (sheet (given .work .now) (given .n)) (c .before .before .before .before .left-behind .ensures) (c .before .if1 .left) in
-    omega (arith, room .1, c .before .before .before .before .before .before .before .pre)
+    let at-left-behind = c .before .before .before .before in
+    let at-entry = at-left-behind .before .before .before in
+    let given = at-entry .args in
+    let room = has-room (given .allowance) (sheet (given .work .now) (given .n)) (at-left-behind .left-behind .ensures) (c .before .if1 .left) in
+    omega (arith, room .1, at-entry .pre)
 
 add-t14 : tie.Need-add-t14
 add-t14 c =
-    let given = c .before .before .before .before .before .before .before .before .before .before .before .args in
-    let room = has-room (given .allowance) (sheet (given .work .now) (given .n)) (c .before .before .before .before .before .before .before .before .left-behind .ensures) (c .before .before .before .before .before .if1 .left) in
-    omega (arith, room .0, c .before .before .before .before .before .before .before .before .before .before .before .fits .allowance)
+    let at-if1 = c .before .before .before .before .before in
+    let at-left-behind = at-if1 .before .before .before in
+    let at-entry = at-left-behind .before .before .before in
+    let given = at-entry .args in
+    let room = has-room (given .allowance) (sheet (given .work .now) (given .n)) (at-left-behind .left-behind .ensures) (at-if1 .if1 .left) in
+    omega (arith, room .0, at-entry .fits .allowance)
 
 same-length : tie.Need-same-length
 same-length c = search needs
 
 returns-2 : tie.Need-returns-2
 returns-2 c =
-    let given = c .before .before .before .before .before .before .before .before .before .before .before .args in
-    let wrote = c .before .before .before .write-frame .ensures in
-    let same = told-noted (given .allowance) (sheet (given .work .now) (given .n)) (c .before .before .before .before .before .before .before .before .left-behind .ensures) (given .bytes .now) (c .before .before .before .before .before .if1 .left)
+    let at-write-frame = c .before .before .before in
+    let at-if1 = at-write-frame .before .before in
+    let at-left-behind = at-if1 .before .before .before in
+    let at-entry = at-left-behind .before .before .before in
+    let given = at-entry .args in
+    let wrote = at-write-frame .write-frame .ensures in
+    let same = told-noted (given .allowance) (sheet (given .work .now) (given .n)) (at-left-behind .left-behind .ensures) (given .bytes .now)
+    (at-if1 .if1 .left)
     (wrote .0) (wrote .1) in
     (ap (λ (s : Sheet). s .noted) same, ap (λ (s : Sheet). s .area) same)
 

@@ -1,14 +1,13 @@
 -- The proof of the cycle of calls {place, trial}. A place tries with one unsettled module less, and a trial goes on to a place with as many, so the
 -- measures are 2 u for a place and 2 u + 1 for a trial. Each way out is a lemma of proofs/Walks.antt.
 use borrow.Author.Needs.{needs}
-use mathlib.Core.Path.{_≡_, sym, _∙_, ap}
+use mathlib.Core.Path.{_∙_, ap}
 use Prim.Native.Nat.{ℕ, _+_, _*_, _-_, _<_}
 use native.Mathlib.Omega.{arith}
 use borrow.Fn.Kinds.{In}
 use borrow.Fn.PlainCycle.{Measures, is, falls, and}
 use lib.ListN.{length}
 use Rattle.store.specs.declared.lookup.Span.{Span}
-use Rattle.search.specs.declared.choices.Choices.{Choices}
 use Rattle.search.specs.Choosing.{falling}
 use Rattle.search.specs.Noting.{sheet}
 use Rattle.search.specs.Walking.{movesIn, eachWalk, walkIn}
@@ -83,14 +82,16 @@ trial-calls t = (
 
 -- PLACE. The loop's invariant: going on from here gives what the whole place gives
 abbrev place-Inv-loop : place-lts.InvT-loop
-place-Inv-loop values starts marks firsts counts targets lows highs work₀ modules allowance unsettled record₀ w m versions untried₀ came₀ sheet₀ work «record» untried came sheet₁ =
+place-Inv-loop values starts marks firsts counts targets lows highs work₀ modules allowance unsettled record₀ w m versions untried₀ came₀ sheet₀ work
+    «record» untried came sheet₁ =
     let v = movesIn values starts marks firsts counts targets lows highs modules in
     let go = walkIn (unsettled - 1) v allowance in
     Going v allowance go w (versions .first)
     (eachWalk v allowance go w came₀ (falling (versions .first) untried₀) record₀ (sheet work₀ sheet₀)) (length work₀) untried₀ work «record» untried came sheet₁
 
 abbrev place-μ-loop : place-lts.MeasureT-loop
-place-μ-loop values starts marks firsts counts targets lows highs work₀ modules allowance unsettled record₀ w m versions untried₀ came₀ sheet₀ work «record» untried came sheet₁ =
+place-μ-loop values starts marks firsts counts targets lows highs work₀ modules allowance unsettled record₀ w m versions untried₀ came₀ sheet₀ work
+    «record» untried came sheet₁ =
     untried
 
 place-returns : (t : ℕ) → place-lts.Need-returns (place-calls t) (place-at t) place.Post place-Inv-loop place-μ-loop
@@ -105,11 +106,15 @@ place-next-module-requires t c κs = search needs
 
 place-returns-2 : (t : ℕ) → place-lts.Need-returns-2 (place-calls t) (place-at t) place.Post place-Inv-loop place-μ-loop
 place-returns-2 t c =
-    let given = c .before .before .before .before .before .before .before .before .before .before .before .before .before .before .before .args in
+    let at-next-module = c .before .before .before .before in
+    let at-if1 = at-next-module .before in
+    let at-entry = at-if1 .before .before .before .before .before .before .before .before .before .before in
+    let given = at-entry .args in
     let v = movesIn (given .values .now) (given .starts .now) (given .marks .now) (given .firsts .now) (given .counts .now) (given .targets .now)
     (given .lows .now) (given .highs .now) (given .modules) in
     both-told
-    (place-found v (given .allowance) (given .choices) (sheet (given .work .now) (given .noted)) (c .before .before .before .before .next-module .ensures) (given .unsettled) (c .before .before .before .before .before .if1 .left)
+    (place-found v (given .allowance) (given .choices) (sheet (given .work .now) (given .noted)) (at-next-module .next-module .ensures) (given .unsettled)
+    (at-if1 .if1 .left)
     (c .if2 .taken))
 
 place-versions-of-requires : (t : ℕ) → place-lts.Need-versions-of-requires (place-calls t) (place-at t) place.Post place-Inv-loop place-μ-loop
@@ -129,20 +134,29 @@ place-sub-trial t c = search needs
 
 place-add-t32 : (t : ℕ) → place-lts.Need-add-t32 (place-calls t) (place-at t) place.Post place-Inv-loop place-μ-loop
 place-add-t32 t c =
-    let given = c .before .before .before .before .before .before .before .before .before .before .before .before .before .before .before .before .before .before .before .before .before .before .before .before .args in
-    let is-first = ap (λ (s : Span). s .first) (c .before .before .before .before .before .before .before .before .versions-of .ensures) in
-    let is-count = ap (λ (s : Span). s .count) (c .before .before .before .before .before .before .before .before .versions-of .ensures) in
-    let fits = c .before .before .before .before .before .before .before .before .before .before .before .before .before .before .before .before .before .before .before .before .before .before .before .before .pre .1 (c .before .before .before .before .before .before .before .before .before .before .before .before .before .next-module .result .next .owner .0) in
-    omega (arith, is-first, is-count, fits, c .before .before .before .loop .inv .few, c .before .before .loop-test .taken)
+    let at-test = c .before .before in
+    let at-turn = at-test .before in
+    let at-versions-of = at-turn .before .before .before .before .before in
+    let at-next-module = at-versions-of .before .before .before .before .before in
+    let at-entry = at-next-module .before .before .before .before .before .before .before .before .before .before .before in
+    let is-first = ap (λ (s : Span). s .first) (at-versions-of .versions-of .ensures) in
+    let is-count = ap (λ (s : Span). s .count) (at-versions-of .versions-of .ensures) in
+    let fits = at-entry .pre .1 (at-next-module .next-module .result .next .owner .0) in
+    omega (arith, is-first, is-count, fits, at-turn .loop .inv .few, at-test .loop-test .taken)
 
 place-trial-requires : (t : ℕ) → place-lts.Need-trial-requires (place-calls t) (place-at t) place.Post place-Inv-loop place-μ-loop
 place-trial-requires t c κs =
-    let given = c .before .before .before .before .before .before .before .before .before .before .before .before .before .before .before .before .before .before .before .before .before .before .before .before .args in
-    let is-first = ap (λ (s : Span). s .first) (c .before .before .before .before .before .before .before .before .versions-of .ensures) in
-    let is-count = ap (λ (s : Span). s .count) (c .before .before .before .before .before .before .before .before .versions-of .ensures) in
-    let fits = c .before .before .before .before .before .before .before .before .before .before .before .before .before .before .before .before .before .before .before .before .before .before .before .before .pre .1 (c .before .before .before .before .before .before .before .before .before .before .before .before .before .next-module .result .next .owner .0) in (
-      omega (arith, c .before .before .before .before .before .before .before .before .before .before .before .before .before .before .before .before .before .before .before .before .before .before .before .before .pre .0, c .before .before .before .before .before .before .before .before .before .before .before .before .before .before .if1 .left),
-      (c .before .before .before .before .before .before .before .before .before .before .before .before .before .before .before .before .before .before .before .before .before .before .before .before .pre .1, omega (arith, is-first, is-count, fits, c .before .before .before .loop .inv .few, c .before .before .loop-test .taken)),
+    let at-test = c .before .before in
+    let at-turn = at-test .before in
+    let at-versions-of = at-turn .before .before .before .before .before in
+    let at-next-module = at-versions-of .before .before .before .before .before in
+    let at-if1 = at-next-module .before in
+    let at-entry = at-if1 .before .before .before .before .before .before .before .before .before .before in
+    let is-first = ap (λ (s : Span). s .first) (at-versions-of .versions-of .ensures) in
+    let is-count = ap (λ (s : Span). s .count) (at-versions-of .versions-of .ensures) in
+    let fits = at-entry .pre .1 (at-next-module .next-module .result .next .owner .0) in (
+      omega (arith, at-entry .pre .0, at-if1 .if1 .left),
+      (at-entry .pre .1, omega (arith, is-first, is-count, fits, at-turn .loop .inv .few, at-test .loop-test .taken)),
     )
 
 place-same-length : (t : ℕ) → place-lts.Need-same-length (place-calls t) (place-at t) place.Post place-Inv-loop place-μ-loop
@@ -150,14 +164,24 @@ place-same-length t c = search needs
 
 place-returns-3 : (t : ℕ) → place-lts.Need-returns-3 (place-calls t) (place-at t) place.Post place-Inv-loop place-μ-loop
 place-returns-3 t c =
-    let given = c .before .before .before .before .before .before .before .before .before .before .before .before .before .before .before .before .before .before .before .before .before .before .before .before .before .before .before .before .args in
+    let at-trial = c .before .before .before in
+    let at-test = at-trial .before .before .before in
+    let at-turn = at-test .before in
+    let at-cite = at-turn .before .before .before in
+    let at-versions-of = at-cite .before .before in
+    let at-if2 = at-versions-of .before in
+    let at-next-module = at-if2 .before .before .before .before in
+    let at-if1 = at-next-module .before in
+    let at-entry = at-if1 .before .before .before .before .before .before .before .before .before .before in
+    let given = at-entry .args in
     let v = movesIn (given .values .now) (given .starts .now) (given .marks .now) (given .firsts .now) (given .counts .now) (given .targets .now)
     (given .lows .now) (given .highs .now) (given .modules) in
-    let begun = place-begun v (given .allowance) (given .choices) (sheet (given .work .now) (given .noted)) (c .before .before .before .before .before .before .before .before .before .before .before .before .before .before .before .before .before .next-module .ensures) (given .unsettled)
-    (c .before .before .before .before .before .before .before .before .before .before .before .before .before .before .before .before .before .before .if1 .left) (c .before .before .before .before .before .before .before .before .before .before .before .before .before .if2 .left) (ap (λ (s : Span). falling (s .first) (s .count)) (c .before .before .before .before .before .before .before .before .before .before .before .before .versions-of .ensures))
-    (noted-is (c .before .before .before .before .before .before .before .before .before .before .cite .ensures .0) (c .before .before .before .before .before .before .before .before .before .before .cite .ensures .1)) in
-    let t-is = ended-is (c .before .before .before .trial .ensures .0) (c .before .before .before .trial .ensures .1) in
-    both-told (going-found _ _ _ _ _ (c .before .before .before .before .before .before .before .loop .inv) (c .before .before .before .before .before .before .loop-test .taken) t-is (c .if3 .taken) ∙ begun)
+    let begun = place-begun v (given .allowance) (given .choices) (sheet (given .work .now) (given .noted)) (at-next-module .next-module .ensures)
+    (given .unsettled)
+    (at-if1 .if1 .left) (at-if2 .if2 .left) (ap (λ (s : Span). falling (s .first) (s .count)) (at-versions-of .versions-of .ensures))
+    (noted-is (at-cite .cite .ensures .0) (at-cite .cite .ensures .1)) in
+    let t-is = ended-is (at-trial .trial .ensures .0) (at-trial .trial .ensures .1) in
+    both-told (going-found _ _ _ _ _ (at-turn .loop .inv) (at-test .loop-test .taken) t-is (c .if3 .taken) ∙ begun)
 
 place-one-less-requires : (t : ℕ) → place-lts.Need-one-less-requires (place-calls t) (place-at t) place.Post place-Inv-loop place-μ-loop
 place-one-less-requires t c κs = search needs
@@ -170,21 +194,34 @@ place-loop-less t c = search needs
 
 place-loop-again : (t : ℕ) → place-lts.Need-loop-again (place-calls t) (place-at t) place.Post place-Inv-loop place-μ-loop
 place-loop-again t c =
-    let t-is = ended-is (c .before .before .before .before .before .before .before .before .before .before .trial .ensures .0) (c .before .before .before .before .before .before .before .before .before .before .trial .ensures .1) in
-    going-on _ _ _ _ _ (c .before .before .before .before .before .before .before .before .before .before .before .before .before .before .loop .inv) (c .before .before .before .before .before .before .before .before .before .before .before .before .before .loop-test .taken) t-is (c .before .before .before .before .before .before .before .if3 .left) (search needs) (c .before .before .before .one-less .ensures)
-    (noted-is (c .before .before .resolve .ensures .0) (c .before .before .resolve .ensures .1))
+    let at-resolve = c .before .before in
+    let at-one-less = at-resolve .before in
+    let at-if3 = at-one-less .before .before .before .before in
+    let at-trial = at-if3 .before .before .before in
+    let at-test = at-trial .before .before .before in
+    let at-turn = at-test .before in
+    let t-is = ended-is (at-trial .trial .ensures .0) (at-trial .trial .ensures .1) in
+    going-on _ _ _ _ _ (at-turn .loop .inv) (at-test .loop-test .taken) t-is (at-if3 .if3 .left) (search needs) (at-one-less .one-less .ensures)
+    (noted-is (at-resolve .resolve .ensures .0) (at-resolve .resolve .ensures .1))
 
 place-same-length-2 : (t : ℕ) → place-lts.Need-same-length-2 (place-calls t) (place-at t) place.Post place-Inv-loop place-μ-loop
 place-same-length-2 t c = search needs
 
 place-returns-4 : (t : ℕ) → place-lts.Need-returns-4 (place-calls t) (place-at t) place.Post place-Inv-loop place-μ-loop
 place-returns-4 t c =
-    let given = c .before .before .before .before .before .before .before .before .before .before .before .before .before .before .before .before .before .before .before .before .before .before .args in
+    let at-cite = c .before .before .before .before in
+    let at-versions-of = at-cite .before .before in
+    let at-if2 = at-versions-of .before in
+    let at-next-module = at-if2 .before .before .before .before in
+    let at-if1 = at-next-module .before in
+    let at-entry = at-if1 .before .before .before .before .before .before .before .before .before .before in
+    let given = at-entry .args in
     let v = movesIn (given .values .now) (given .starts .now) (given .marks .now) (given .firsts .now) (given .counts .now) (given .targets .now)
     (given .lows .now) (given .highs .now) (given .modules) in
-    let begun = place-begun v (given .allowance) (given .choices) (sheet (given .work .now) (given .noted)) (c .before .before .before .before .before .before .before .before .before .before .before .next-module .ensures) (given .unsettled)
-    (c .before .before .before .before .before .before .before .before .before .before .before .before .if1 .left) (c .before .before .before .before .before .before .before .if2 .left) (ap (λ (s : Span). falling (s .first) (s .count)) (c .before .before .before .before .before .before .versions-of .ensures))
-    (noted-is (c .before .before .before .before .cite .ensures .0) (c .before .before .before .before .cite .ensures .1)) in
+    let begun = place-begun v (given .allowance) (given .choices) (sheet (given .work .now) (given .noted)) (at-next-module .next-module .ensures)
+    (given .unsettled)
+    (at-if1 .if1 .left) (at-if2 .if2 .left) (ap (λ (s : Span). falling (s .first) (s .count)) (at-versions-of .versions-of .ensures))
+    (noted-is (at-cite .cite .ensures .0) (at-cite .cite .ensures .1)) in
     both-told (going-done _ _ _ _ _ (c .before .loop .inv) (c .loop-test .left) ∙ begun)
 
 -- TRIAL
@@ -199,32 +236,45 @@ trial-same-length t c = search needs
 
 trial-returns : (t : ℕ) → trial-lts.Need-returns (trial-calls t) (trial-at t) trial.Post
 trial-returns t c =
-    let given = c .before .before .before .before .before .before .before .before .before .before .before .before .before .before .before .before .before .before .before .args in
+    let at-cite = c .before .before in
+    let at-if1 = at-cite .before .before in
+    let at-barring = at-if1 .before in
+    let at-entry = at-barring .before .before .before .before .before .before .before .before .before .before .before .before .before .before in
+    let given = at-entry .args in
     let v = movesIn (given .values .now) (given .starts .now) (given .marks .now) (given .firsts .now) (given .counts .now) (given .targets .now)
     (given .lows .now) (given .highs .now) (given .modules) in
     let go = walkIn (given .unsettled) v (given .allowance) in
     both-told
-    (try-barred v (given .allowance) go (given .w) (given .p .0) (given .t13) (sheet (given .work .now) (given .noted)) (c .before .before .before .before .before .barring .ensures)
-    (c .before .before .before .before .if1 .taken) (noted-is (c .before .before .cite .ensures .0) (c .before .before .cite .ensures .1)))
+    (try-barred v (given .allowance) go (given .w) (given .p .0) (given .t13) (sheet (given .work .now) (given .noted)) (at-barring .barring .ensures)
+    (at-if1 .if1 .taken) (noted-is (at-cite .cite .ensures .0) (at-cite .cite .ensures .1)))
 
 trial-choose-requires : (t : ℕ) → trial-lts.Need-choose-requires (trial-calls t) (trial-at t) trial.Post
-trial-choose-requires t c κs = c .before .before .before .before .before .before .before .before .before .before .before .before .before .before .before .pre .1 .1
+trial-choose-requires t c κs =
+    let at-entry = c .before .before .before .before .before .before .before .before .before .before .before .before .before .before .before in
+    at-entry .pre .1 .1
 
 trial-place-requires : (t : ℕ) → trial-lts.Need-place-requires (trial-calls t) (trial-at t) trial.Post
-trial-place-requires t c κs = (omega (arith, c .before .before .before .before .before .before .before .before .before .before .before .before .before .before .before .before .before .pre .0), c .before .before .before .before .before .before .before .before .before .before .before .before .before .before .before .before .before .pre .1 .0)
+trial-place-requires t c κs =
+    let at-entry = c .before .before .before .before .before .before .before .before .before .before .before .before .before .before .before .before .before in
+    (omega (arith, at-entry .pre .0), at-entry .pre .1 .0)
 
 trial-same-length-2 : (t : ℕ) → trial-lts.Need-same-length-2 (trial-calls t) (trial-at t) trial.Post
 trial-same-length-2 t c = search needs
 
 trial-returns-2 : (t : ℕ) → trial-lts.Need-returns-2 (trial-calls t) (trial-at t) trial.Post
 trial-returns-2 t c =
-    let given = c .before .before .before .before .before .before .before .before .before .before .before .before .before .before .before .before .before .before .before .before .before .args in
+    let at-place = c .before .before .before in
+    let at-choose = at-place .before .before in
+    let at-if1 = at-choose .before in
+    let at-barring = at-if1 .before in
+    let at-entry = at-barring .before .before .before .before .before .before .before .before .before .before .before .before .before .before in
+    let given = at-entry .args in
     let v = movesIn (given .values .now) (given .starts .now) (given .marks .now) (given .firsts .now) (given .counts .now) (given .targets .now)
     (given .lows .now) (given .highs .now) (given .modules) in
     let go = walkIn (given .unsettled) v (given .allowance) in
     both-told
-    (try-found v (given .allowance) go (given .w) (given .p .0) (given .t13) (sheet (given .work .now) (given .noted)) (c .before .before .before .before .before .before .before .barring .ensures)
-    (c .before .before .before .before .before .before .if1 .left) (c .before .before .before .before .before .choose .ensures) (ended-is (c .before .before .before .place .ensures .0) (c .before .before .before .place .ensures .1)) (c .if2 .taken))
+    (try-found v (given .allowance) go (given .w) (given .p .0) (given .t13) (sheet (given .work .now) (given .noted)) (at-barring .barring .ensures)
+    (at-if1 .if1 .left) (at-choose .choose .ensures) (ended-is (at-place .place .ensures .0) (at-place .place .ensures .1)) (c .if2 .taken))
 
 trial-take-back-requires : (t : ℕ) → trial-lts.Need-take-back-requires (trial-calls t) (trial-at t) trial.Post
 trial-take-back-requires t c κs = search needs
@@ -234,18 +284,28 @@ trial-same-length-3 t c = search needs
 
 trial-returns-3 : (t : ℕ) → trial-lts.Need-returns-3 (trial-calls t) (trial-at t) trial.Post
 trial-returns-3 t c =
-    let given = c .before .before .before .before .before .before .before .before .before .before .before .before .before .before .before .before .before .before .before .before .before .before .before .before .args in
+    let at-if2 = c .before .before .before in
+    let at-place = at-if2 .before .before .before in
+    let at-choose = at-place .before .before in
+    let at-if1 = at-choose .before in
+    let at-barring = at-if1 .before in
+    let at-entry = at-barring .before .before .before .before .before .before .before .before .before .before .before .before .before .before in
+    let given = at-entry .args in
     let v = movesIn (given .values .now) (given .starts .now) (given .marks .now) (given .firsts .now) (given .counts .now) (given .targets .now)
     (given .lows .now) (given .highs .now) (given .modules) in
     let go = walkIn (given .unsettled) v (given .allowance) in
     both-told
-    (try-failed v (given .allowance) go (given .w) (given .p .0) (given .t13) (sheet (given .work .now) (given .noted)) (c .before .before .before .before .before .before .before .before .before .before .barring .ensures)
-    (c .before .before .before .before .before .before .before .before .before .if1 .left) (c .before .before .before .before .before .before .before .before .choose .ensures) (ended-is (c .before .before .before .before .before .before .place .ensures .0) (c .before .before .before .before .before .before .place .ensures .1)) (c .before .before .before .if2 .left) (c .take-back .ensures))
+    (try-failed v (given .allowance) go (given .w) (given .p .0) (given .t13) (sheet (given .work .now) (given .noted)) (at-barring .barring .ensures)
+    (at-if1 .if1 .left) (at-choose .choose .ensures) (ended-is (at-place .place .ensures .0) (at-place .place .ensures .1)) (at-if2 .if2 .left)
+    (c .take-back .ensures))
 
 pub +place+trial-spec : {M : Type 1} → statement M
 +place+trial-spec =
     close μ-place μ-trial
     (λ t. place-lts.spec (place-calls t) (place-at t) place.Post place-Inv-loop place-μ-loop
-    (place-returns t) (place-next-module-requires t) (place-returns-2 t) (place-versions-of-requires t) (place-cite-requires t) (place-loop-holds t) (place-sub-untried t) (place-sub-trial t) (place-add-t32 t) (place-trial-requires t) (place-same-length t) (place-returns-3 t) (place-one-less-requires t) (place-resolve-requires t) (place-loop-less t) (place-loop-again t) (place-same-length-2 t) (place-returns-4 t))
+    (place-returns t) (place-next-module-requires t) (place-returns-2 t) (place-versions-of-requires t) (place-cite-requires t) (place-loop-holds t)
+    (place-sub-untried t) (place-sub-trial t) (place-add-t32 t) (place-trial-requires t) (place-same-length t) (place-returns-3 t)
+    (place-one-less-requires t) (place-resolve-requires t) (place-loop-less t) (place-loop-again t) (place-same-length-2 t) (place-returns-4 t))
     (λ t. trial-lts.spec (trial-calls t) (trial-at t) trial.Post
-    (trial-barring-requires t) (trial-cite-requires t) (trial-same-length t) (trial-returns t) (trial-choose-requires t) (trial-place-requires t) (trial-same-length-2 t) (trial-returns-2 t) (trial-take-back-requires t) (trial-same-length-3 t) (trial-returns-3 t))
+    (trial-barring-requires t) (trial-cite-requires t) (trial-same-length t) (trial-returns t) (trial-choose-requires t) (trial-place-requires t)
+    (trial-same-length-2 t) (trial-returns-2 t) (trial-take-back-requires t) (trial-same-length-3 t) (trial-returns-3 t))
