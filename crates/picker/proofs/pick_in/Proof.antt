@@ -1,0 +1,91 @@
+use borrow.Author.Needs.{needs}
+use Rattle.picker.proofs.pick_in.Statement.{statement}
+use Rattle.picker.proofs.pick_in.Tie as tie
+use Rattle.picker.proofs.pick_in.Reads as reads
+use Rattle.picker.proofs.pick_in.Lts as lts
+use Rattle.catalogue.proofs.reading.read.Reads as read-reads
+use Rattle.picker.proofs.answer.Reads as answer-reads
+use Rattle.picker.proofs.sheet.write_sheet.Reads as write-sheet-reads
+use Rattle.search.proofs.find.find.Reads as find-reads
+use Rattle.selection.proofs.text.write_selection.Reads as write-selection-reads
+
+read-requires : tie.Need-read-requires
+read-requires c κs = search needs
+
+answer-requires : tie.Need-answer-requires
+answer-requires c κs = search needs
+
+returns : tie.Need-returns
+returns c = search needs
+
+find-requires : tie.Need-find-requires
+find-requires c κs = let k = (c .before .before .before .before .before .before .before .before .before .before .before .before .before .before .before .before .before .before .before .before .before .struct-known .given) in k
+
+write-selection-requires : tie.Need-write-selection-requires
+write-selection-requires c κs = search needs
+
+cast-answer : tie.Need-cast-answer
+cast-answer c = search needs
+
+answer-requires-2 : tie.Need-answer-requires-2
+answer-requires-2 c κs = search needs
+
+same-length : tie.Need-same-length
+same-length c = search needs
+
+same-length-2 : tie.Need-same-length-2
+same-length-2 c = search needs
+
+returns-2 : tie.Need-returns-2
+returns-2 c = search needs
+
+answer-requires-3 : tie.Need-answer-requires-3
+answer-requires-3 c κs = search needs
+
+same-length-3 : tie.Need-same-length-3
+same-length-3 c = search needs
+
+returns-3 : tie.Need-returns-3
+returns-3 c = let k = (c .before .if3 .taken) in let l = c .before .before .before .if2 .left in (k, l)
+
+write-sheet-requires : tie.Need-write-sheet-requires
+write-sheet-requires c κs = search needs
+
+cast-answer-2 : tie.Need-cast-answer-2
+cast-answer-2 c = search needs
+
+answer-requires-4 : tie.Need-answer-requires-4
+answer-requires-4 c κs = search needs
+
+same-length-4 : tie.Need-same-length-4
+same-length-4 c = search needs
+
+same-length-5 : tie.Need-same-length-5
+same-length-5 c = search needs
+
+returns-4 : tie.Need-returns-4
+returns-4 c = search needs
+
+pub pick-in-spec : {M : Type 1} → statement M
+pick-in-spec =
+    tie.close
+    (tie.spec
+    read-requires
+    answer-requires
+    returns
+    find-requires
+    write-selection-requires
+    cast-answer
+    answer-requires-2
+    same-length
+    same-length-2
+    returns-2
+    answer-requires-3
+    same-length-3
+    returns-3
+    write-sheet-requires
+    cast-answer-2
+    answer-requires-4
+    same-length-4
+    same-length-5
+    returns-4)
