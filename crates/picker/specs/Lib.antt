@@ -1,3 +1,4 @@
 -- What a call of pick owes.
 pub mod Entry
+pub mod Checking
 pub mod Written

@@ -1,0 +1,129 @@
+-- What check's answers mean: number 0 exactly for the texts of refuting sheets (`checks-exactly`), and then no selection is valid (`checked-none`); every
+-- sheet that pick writes is accepted (`accepts-picked`). Assumes nothing.
+use mathlib.Core.Path.{_≡_, refl, sym, _∙_, ap, subst}
+use mathlib.Core.Logic.{_↔_}
+use mathlib.Core.Bool.{Bool, true, false, cond}
+use mathlib.Core.List.{List, []}
+use mathlib.Core.Option.{Option, none, some}
+use Prim.Native.Nat.{ℕ, _≤_}
+use native.Mathlib.Omega.{arith}
+use lib.Dec.{leb, eqb}
+use lib.ListN.{length, take, drop}
+use lib.Seq.{take-at}
+use borrow.Author.Tests.{le-leb, eqb-true, eqb-false, eq-eqb}
+use Rattle.rules.specs.Lines.{Fault, fault, fine}
+use Rattle.rules.specs.Frames.{sheets, catalogues}
+use Rattle.rules.specs.Catalogue.{Catalogue, Reading, WellFormed, Carried, CarriedLimits, limits, orderFits, contentFits, roomFits, rootFits}
+use Rattle.rules.specs.Catalogue.{catalogueReader, reading, noCatalogue, textFault, catalogueOf}
+use Rattle.rules.specs.Selection.{Selection}
+use Rattle.rules.specs.Search.{best}
+use Rattle.rules.specs.Sheet.{Entry, refutes, lastLine, isRefuting, sheetOrderFits, sheetContentFits, sheetReader, sheetReading, sheetFault, sheetText}
+use Rattle.rules.specs.Promises.{SomeValid}
+use Rattle.rules.proofs.Lists.{cond-true, cond-false}
+use Rattle.rules.proofs.Theorems.{reads-well-formed, accepts-exactly, sheets-tell, picks-valid}
+use Rattle.picker.specs.Entry.{workLeast, isFine, areasFit, picked, OutcomeOwes, ReadOwes, PickOwes}
+use Rattle.picker.specs.Checking.{checked, checkedBy, checkOn, checkOf, ChecksExactly, CheckedNone, AcceptsPicked}
+use Rattle.picker.specs.declared.Checked.{Checked}
+use Rattle.picker.specs.declared.Picked.{Picked}
+use Rattle.picker.proofs.Numbers.{unless-most, two-most, three-most, fine-by-number, number-most}
+
+carried-limits : CarriedLimits limits
+carried-limits = record { needs = omega arith; sheets = omega arith }
+
+-- THE NUMBERS: 0 is told of a text only where it has no fault, and reading a catalogue tells none above 8
+module _ (t : List ℕ) where
+  frame-most : (s : Reading) (f : List ℕ) → catalogueReader limits .fault s f ≤ 8
+  frame-most s f = three-most (orderFits s f) (contentFits (s .sofar) f) (roomFits limits (s .sofar) f) 5 6 7 8 (omega arith) (omega arith) (omega arith)
+
+  end-most : (s : Reading) → catalogueReader limits .last s ≤ 8
+  end-most s = unless-most (rootFits (s .sofar)) 8 8 (omega arith)
+
+  text-fine : isFine (textFault limits t) ≡ true → textFault limits t ≡ fine
+  text-fine e =
+      fine-by-number (catalogueReader limits) 8 (omega arith) frame-most end-most (limits .bytes) (reading 0 noCatalogue) t (eqb-true _ 0 e)
+
+  text-most : textFault limits t .number ≤ 8
+  text-most = number-most (catalogueReader limits) 8 (omega arith) frame-most end-most (limits .bytes) (reading 0 noCatalogue) t
+
+sheet-fine : (c : Catalogue) (h : List ℕ) → isFine (sheetFault limits c h) ≡ true → sheetFault limits c h ≡ fine
+sheet-fine c h e =
+    fine-by-number (sheetReader c) 13 (omega arith)
+    (λ s f. two-most (sheetOrderFits s f) (sheetContentFits c s f) 5 6 13 (omega arith) (omega arith))
+    (λ s. unless-most (refutes c (lastLine c (s .entries))) 13 13 (omega arith)) (limits .bytes) (sheetReading 0 0 []) h (eqb-true _ 0 e)
+
+-- CHECK where the work area is long enough
+long-enough : (t h w : List ℕ) → workLeast ≤ length w → checkOf t h w ≡ checkOn t h
+long-enough t h w l = cond-true _ _ (le-leb workLeast (length w) l)
+
+-- a catalogue that reads, and a sheet that refutes
+accepted : (t h : List ℕ) → textFault limits t ≡ fine → sheetFault limits (catalogueOf limits t) h ≡ fine → checkOn t h ≡ checked fine 0
+accepted t h e f =
+    cond-true _ _ (ap isFine e) ∙ ap (checkedBy sheets) f
+
+-- and only then
+only-accepted : (t h : List ℕ) → checkOn t h .number ≡ 0 → (textFault limits t ≡ fine) × (sheetFault limits (catalogueOf limits t) h ≡ fine)
+only-accepted t h = go (isFine (textFault limits t)) refl
+  where
+    go : (b : Bool) → isFine (textFault limits t) ≡ b →
+        cond b (checkedBy sheets (sheetFault limits (catalogueOf limits t) h)) (checkedBy catalogues (textFault limits t)) .number ≡ 0 →
+        (textFault limits t ≡ fine) × (sheetFault limits (catalogueOf limits t) h ≡ fine)
+    go true e z = (text-fine t e, sheet-fine (catalogueOf limits t) h (eq-eqb _ 0 z))
+    go false e z = absurd (eqb-false _ 0 e z)
+
+read-well : (t : List ℕ) → textFault limits t ≡ fine → WellFormed (catalogueOf limits t) × Carried (catalogueOf limits t)
+read-well t e = reads-well-formed limits t carried-limits e
+
+pub checks-exactly : ChecksExactly
+checks-exactly t h w l = (told, back)
+  where
+    c : Catalogue
+    c = catalogueOf limits t
+
+    told : checkOf t h w .number ≡ 0 → (textFault limits t ≡ fine) × ((es : List Entry) × (isRefuting c es ≡ true) × (h ≡ sheetText es))
+    told z =
+        let both = only-accepted t h (ap (λ (x : Checked). x .number) (sym (long-enough t h w l)) ∙ z) in
+        (both .0, accepts-exactly limits c h carried-limits (read-well t (both .0) .1) .0 (both .1))
+
+    back : (textFault limits t ≡ fine) × ((es : List Entry) × (isRefuting c es ≡ true) × (h ≡ sheetText es)) → checkOf t h w .number ≡ 0
+    back (e, s) =
+        ap (λ (x : Checked). x .number)
+        (long-enough t h w l ∙ accepted t h e (accepts-exactly limits c h carried-limits (read-well t e .1) .1 s))
+
+pub checked-none : CheckedNone
+checked-none t h w l z =
+    let told = checks-exactly t h w l .0 z in
+    let well = read-well t (told .0) .0 in
+    picks-valid (catalogueOf limits t) well .1 .0 (sheets-tell (catalogueOf limits t) well .1 (told .1 .0) (told .1 .1))
+
+-- A SHEET OF PICK is the text of a refuting sheet, behind which the area stays
+pub accepts-picked : AcceptsPicked
+accepts-picked t s h w a r u v x y fits owes nine l = go (isFine (textFault limits t)) refl
+  where
+    c : Catalogue
+    c = catalogueOf limits t
+
+    read : ReadOwes t s h a r u v
+    read = owes .fit fits .0
+
+    -- the answer is another number where the text is refused and where a selection is found
+    refused : isFine (textFault limits t) ≡ false → ⊥
+    refused e =
+        let number = ap (λ (p : Picked). p .number) (read .refused e .0) in
+        let most = text-most t in
+        omega (arith, number, nine, most)
+
+    outcome : (o : Option Selection) → OutcomeOwes c o s h a r u v → textFault limits t ≡ fine → checkOf t (take (r .size) v) y ≡ checked fine 0
+    outcome none owed e =
+        let sheet = owed .0 .written nine in
+        let es = sheet .0 in
+        let is-text : take (r .size) v ≡ sheetText es =
+          ap (take (r .size)) (sheet .1 .3) ∙ take-at (sheetText es) (drop (length (sheetText es)) h) (r .size) (sym (sheet .1 .2)) in
+        let accepts = accepts-exactly limits c (take (r .size) v) carried-limits (read-well t e .1) .1 (es, sheet .1 .0, is-text) in
+        long-enough t (take (r .size) v) y l ∙ accepted t (take (r .size) v) e accepts
+    outcome (some z) owed e =
+        let number = ap (λ (p : Picked). p .number) (owed .0) in
+        absurd (omega (arith, number, nine))
+
+    go : (b : Bool) → isFine (textFault limits t) ≡ b → checkOf t (take (r .size) v) y ≡ checked fine 0
+    go true e = outcome (best c) (read .read e) (text-fine t e)
+    go false e = absurd (refused e)
