@@ -117,7 +117,7 @@ accepts-picked t s h w a r u v x y fits owes nine l = go (isFine (textFault limi
         let sheet = owed .0 .written nine in
         let es = sheet .0 in
         let is-text : take (r .size) v ≡ sheetText es =
-          ap (take (r .size)) (sheet .1 .3) ∙ take-at (sheetText es) (drop (length (sheetText es)) h) (r .size) (sym (sheet .1 .2)) in
+        ap (take (r .size)) (sheet .1 .3) ∙ take-at (sheetText es) (drop (length (sheetText es)) h) (r .size) (sym (sheet .1 .2)) in
         let accepts = accepts-exactly limits c (take (r .size) v) carried-limits (read-well t e .1) .1 (es, sheet .1 .0, is-text) in
         long-enough t (take (r .size) v) y l ∙ accepted t (take (r .size) v) e accepts
     outcome (some z) owed e =
