@@ -3,3 +3,4 @@ pub mod Turns
 pub mod Sheets
 pub mod Readings
 pub mod Outcomes
+pub mod Answers
