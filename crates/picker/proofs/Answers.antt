@@ -8,7 +8,7 @@ use mathlib.Core.Option.{Option, none, some}
 use Prim.Native.Nat.{ℕ, _+_, _*_, _≤_, _<_}
 use native.Mathlib.Omega.{arith}
 use lib.Dec.{leb, eqb}
-use lib.ListN.{length, take}
+use lib.ListN.{length, take, replicate}
 use lib.Seq.{sets}
 use borrow.Author.Tests.{leb-true, eqb-true}
 use Rattle.rules.specs.Lines.{Fault, fault, fine}
@@ -25,7 +25,7 @@ use Rattle.selection.specs.Written.{textIn}
 use Rattle.selection.proofs.Whole.{settled-few, text-length}
 use Rattle.selection.proofs.Selected.{text-is-the-rules}
 use Rattle.picker.specs.declared.Picked.{Picked}
-use Rattle.picker.specs.Entry.{selectionLeast, sheetLeast, workLeast, areasFit, over, picked, isFine, SheetOwes, OutcomeOwes, ReadOwes}
+use Rattle.picker.specs.Entry.{selectionLeast, sheetLeast, workLeast, areasFit, over, picked, isFine, zeroed, SheetOwes, OutcomeOwes, ReadOwes, PickOwes}
 use Rattle.picker.specs.Written.{sheetIn}
 use Rattle.picker.proofs.Turns.{stored-over}
 use Rattle.picker.proofs.Sheets.{sheet-length, sheet-is-the-rules, lines-short}
@@ -83,10 +83,11 @@ module _ {l : Lines} {c : Catalogue} (k : ReadWell l c) where
       selectionLeast ≤ length s → size ≡ length (textOf l chosen) →
       u ≡ sets s 0 (textOf l chosen) → r ≡ picked fine size → OutcomeOwes c (best c) s h a r u h
   selected s h a chosen {r} {u} {size} e room n w p =
-      subst (λ (o : Option Selection). OutcomeOwes c o s h a r u h) (sym e)
-      (p ∙ ap (picked fine) (n ∙ ap length rules-text),
-      w ∙ stored-over (textOf l chosen) s (omega (arith, text-fits chosen)) ∙ ap (λ (t : List ℕ). over t s) rules-text,
-      refl)
+      subst (λ (o : Option Selection). OutcomeOwes c o s h a r u h) (sym e) (
+        p ∙ ap (picked fine) (n ∙ ap length rules-text),
+        w ∙ stored-over (textOf l chosen) s (omega (arith, text-fits chosen)) ∙ ap (λ (t : List ℕ). over t s) rules-text,
+        refl,
+      )
     where
       rules-text : textOf l chosen ≡ selectionText c (take (c .modules) chosen)
       rules-text =
@@ -150,3 +151,13 @@ module _ {c : Catalogue} {l : Lines} (k : ReadWell l c) (s h : List ℕ) (a : �
 
         refutes : isRefuting c (linesOf c) ≡ true
         refutes = sheets-tell c (k .well-formed) .0 e .1 (omega (arith, count-lines, left .within))
+
+-- A WHOLE PICK: areas that don't fit change nothing
+pub unfit-owed : (text s h w : List ℕ) (a : ℕ) {r : Picked} → areasFit s h w a ≡ false → r ≡ picked (fault 11 0) 0 → PickOwes text s h w a r s h w
+unfit-owed text s h w a f p = record { unfit = λ q. (p, refl, refl, refl); fit = λ q. absurd (not-both q f) }
+
+-- and others are answered, with the work area made zero
+pub fit-owed : (text s h w used : List ℕ) (a : ℕ) {r : Picked} {u v x : List ℕ} → areasFit s h w a ≡ true → ReadOwes text s h a r u v →
+    length used ≡ length w → x ≡ zeroed used → PickOwes text s h w a r u v x
+fit-owed text s h w used a f o n z =
+    record { unfit = λ q. absurd (not-both f q); fit = λ q. (o, z ∙ ap (λ (k : ℕ). replicate k 0) n) }
