@@ -3,3 +3,6 @@ pub mod Turns
 pub mod Sheets
 pub mod Numbers
 pub mod Checks
+pub mod Readings
+pub mod Outcomes
+pub mod Answers
