@@ -3,11 +3,11 @@
 use mathlib.Core.Path.{_≡_, refl, sym, _∙_, ap, ap₂, subst}
 use mathlib.Core.Logic.{_≢_, inl, inr}
 use mathlib.Core.Bool.{true, false, _&&_}
-use mathlib.Core.List.{List, flatMap}
+use mathlib.Core.List.{List}
 use mathlib.Core.Option.{Option, none, some}
 use Prim.Native.Nat.{ℕ, _+_, _*_, _≤_, _<_}
 use native.Mathlib.Omega.{arith}
-use lib.Dec.{leb, eqb}
+use lib.Dec.{leb}
 use lib.ListN.{length, take, replicate}
 use lib.Seq.{sets}
 use borrow.Author.Tests.{leb-true, eqb-true}
@@ -15,7 +15,7 @@ use Rattle.rules.specs.Lines.{Fault, fault, fine}
 use Rattle.rules.specs.Catalogue.{Catalogue, limits, textFault, catalogueOf}
 use Rattle.rules.specs.Selection.{Selection, selectionText}
 use Rattle.rules.specs.Search.{best, trialsOf}
-use Rattle.rules.specs.Sheet.{Entry, mostLines, entryText, isRefuting, sheetText}
+use Rattle.rules.specs.Sheet.{mostLines, isRefuting, sheetText}
 use Rattle.rules.proofs.Lists.{and-fst, and-snd, not-both}
 use Rattle.rules.proofs.Theorems.{sheets-tell}
 use Rattle.catalogue.specs.declared.reading.Lines.{Lines}

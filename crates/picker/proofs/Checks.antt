@@ -1,55 +1,31 @@
 -- What check's answers mean: number 0 exactly for the texts of refuting sheets (`checks-exactly`), and then no selection is valid (`checked-none`); every
 -- sheet that pick writes is accepted (`accepts-picked`). Assumes nothing.
-use mathlib.Core.Path.{_≡_, refl, sym, _∙_, ap, subst}
-use mathlib.Core.Logic.{_↔_}
+use mathlib.Core.Path.{_≡_, refl, sym, _∙_, ap}
 use mathlib.Core.Bool.{Bool, true, false, cond}
-use mathlib.Core.List.{List, []}
+use mathlib.Core.List.{List}
 use mathlib.Core.Option.{Option, none, some}
 use Prim.Native.Nat.{ℕ, _≤_}
 use native.Mathlib.Omega.{arith}
-use lib.Dec.{leb, eqb}
 use lib.ListN.{length, take, drop}
 use lib.Seq.{take-at}
-use borrow.Author.Tests.{le-leb, eqb-true, eqb-false, eq-eqb}
-use Rattle.rules.specs.Lines.{Fault, fault, fine}
+use borrow.Author.Tests.{le-leb, eqb-true, eqb-false}
+use Rattle.rules.specs.Lines.{fine}
 use Rattle.rules.specs.Frames.{sheets, catalogues}
-use Rattle.rules.specs.Catalogue.{Catalogue, Reading, WellFormed, Carried, CarriedLimits, limits, orderFits, contentFits, roomFits, rootFits}
-use Rattle.rules.specs.Catalogue.{catalogueReader, reading, noCatalogue, textFault, catalogueOf}
+use Rattle.rules.specs.Catalogue.{Catalogue, WellFormed, Carried, CarriedLimits, limits}
+use Rattle.rules.specs.Catalogue.{textFault, catalogueOf}
 use Rattle.rules.specs.Selection.{Selection}
 use Rattle.rules.specs.Search.{best}
-use Rattle.rules.specs.Sheet.{Entry, refutes, lastLine, isRefuting, sheetOrderFits, sheetContentFits, sheetReader, sheetReading, sheetFault, sheetText}
-use Rattle.rules.specs.Promises.{SomeValid}
-use Rattle.rules.proofs.Lists.{cond-true, cond-false}
+use Rattle.rules.specs.Sheet.{Entry, refutes, isRefuting, sheetFault, sheetText}
+use Rattle.rules.proofs.Lists.{cond-true}
 use Rattle.rules.proofs.Theorems.{reads-well-formed, accepts-exactly, sheets-tell, picks-valid}
-use Rattle.picker.specs.Entry.{workLeast, isFine, areasFit, picked, OutcomeOwes, ReadOwes, PickOwes}
+use Rattle.picker.specs.Entry.{workLeast, isFine, OutcomeOwes, ReadOwes}
 use Rattle.picker.specs.Checking.{checked, checkedBy, checkOn, checkOf, ChecksExactly, CheckedNone, AcceptsPicked}
 use Rattle.picker.specs.declared.Checked.{Checked}
 use Rattle.picker.specs.declared.Picked.{Picked}
-use Rattle.picker.proofs.Numbers.{unless-most, two-most, three-most, fine-by-number, number-most}
+use Rattle.picker.proofs.Numbers.{text-fine, text-most, sheet-fine}
 
 carried-limits : CarriedLimits limits
 carried-limits = record { needs = omega arith; sheets = omega arith }
-
--- THE NUMBERS: 0 is told of a text only where it has no fault, and reading a catalogue tells none above 8
-module _ (t : List ℕ) where
-  frame-most : (s : Reading) (f : List ℕ) → catalogueReader limits .fault s f ≤ 8
-  frame-most s f = three-most (orderFits s f) (contentFits (s .sofar) f) (roomFits limits (s .sofar) f) 5 6 7 8 (omega arith) (omega arith) (omega arith)
-
-  end-most : (s : Reading) → catalogueReader limits .last s ≤ 8
-  end-most s = unless-most (rootFits (s .sofar)) 8 8 (omega arith)
-
-  text-fine : isFine (textFault limits t) ≡ true → textFault limits t ≡ fine
-  text-fine e =
-      fine-by-number (catalogueReader limits) 8 (omega arith) frame-most end-most (limits .bytes) (reading 0 noCatalogue) t (eqb-true _ 0 e)
-
-  text-most : textFault limits t .number ≤ 8
-  text-most = number-most (catalogueReader limits) 8 (omega arith) frame-most end-most (limits .bytes) (reading 0 noCatalogue) t
-
-sheet-fine : (c : Catalogue) (h : List ℕ) → isFine (sheetFault limits c h) ≡ true → sheetFault limits c h ≡ fine
-sheet-fine c h e =
-    fine-by-number (sheetReader c) 13 (omega arith)
-    (λ s f. two-most (sheetOrderFits s f) (sheetContentFits c s f) 5 6 13 (omega arith) (omega arith))
-    (λ s. unless-most (refutes c (lastLine c (s .entries))) 13 13 (omega arith)) (limits .bytes) (sheetReading 0 0 []) h (eqb-true _ 0 e)
 
 -- CHECK where the work area is long enough
 long-enough : (t h w : List ℕ) → workLeast ≤ length w → checkOf t h w ≡ checkOn t h
@@ -67,7 +43,7 @@ only-accepted t h = go (isFine (textFault limits t)) refl
     go : (b : Bool) → isFine (textFault limits t) ≡ b →
         cond b (checkedBy sheets (sheetFault limits (catalogueOf limits t) h)) (checkedBy catalogues (textFault limits t)) .number ≡ 0 →
         (textFault limits t ≡ fine) × (sheetFault limits (catalogueOf limits t) h ≡ fine)
-    go true e z = (text-fine t e, sheet-fine (catalogueOf limits t) h (eq-eqb _ 0 z))
+    go true e z = (text-fine t (eqb-true _ 0 e), sheet-fine (catalogueOf limits t) h z)
     go false e z = absurd (eqb-false _ 0 e z)
 
 read-well : (t : List ℕ) → textFault limits t ≡ fine → WellFormed (catalogueOf limits t) × Carried (catalogueOf limits t)
@@ -125,5 +101,5 @@ accepts-picked t s h w a r u v x y fits owes nine l = go (isFine (textFault limi
         absurd (omega (arith, number, nine))
 
     go : (b : Bool) → isFine (textFault limits t) ≡ b → checkOf t (take (r .size) v) y ≡ checked fine 0
-    go true e = outcome (best c) (read .read e) (text-fine t e)
+    go true e = outcome (best c) (read .read e) (text-fine t (eqb-true _ 0 e))
     go false e = absurd (refused e)

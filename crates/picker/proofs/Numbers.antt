@@ -1,7 +1,7 @@
 -- The numbers of refusals: a refusal's number is not 0 and no more than its reader tells (`text-told`), so the number alone tells whether a text is
--- refused (`fine-by-number`). Assumes nothing.
-use mathlib.Core.Path.{_≡_, refl, sym, _∙_, ap}
-use mathlib.Core.Logic.{_≢_, ⊎-elim}
+-- refused (`text-fine`, `sheet-fine`). Assumes nothing.
+use mathlib.Core.Path.{_≡_, refl}
+use mathlib.Core.Logic.{_≢_}
 use mathlib.Core.Bool.{Bool, true, false, cond}
 use mathlib.Core.List.{List, [], _∷_}
 use Prim.Native.Nat.{ℕ, suc, _-_, _≤_}
@@ -9,8 +9,10 @@ use native.Mathlib.Omega.{arith}
 use lib.Dec.{ltb, eqb}
 use lib.ListN.{length}
 use borrow.Author.Tests.{eqb-false}
-use Rattle.rules.specs.Lines.{Fault, fault, fine, orElse, unless, Line, linesOf, shapeFits}
+use Rattle.rules.specs.Lines.{fault, fine, orElse, unless, Line, linesOf, shapeFits}
 use Rattle.rules.specs.Frames.{frameOf, sumFits, kindFits, Reader, Read, bad, got, lineFault, readFrom, readText, faultOf}
+use Rattle.rules.specs.Catalogue.{Catalogue, Reading, reading, noCatalogue, limits, orderFits, contentFits, roomFits, rootFits, catalogueReader, textFault}
+use Rattle.rules.specs.Sheet.{refutes, lastLine, sheetOrderFits, sheetContentFits, sheetReader, sheetReading, sheetFault}
 
 or-else-most : (n m most : ℕ) → n ≤ most → m ≤ most → orElse n m ≤ most
 or-else-most n m most p q = go (eqb n 0)
@@ -19,15 +21,15 @@ or-else-most n m most p q = go (eqb n 0)
     go true = q
     go false = p
 
-pub unless-most : (b : Bool) (n most : ℕ) → n ≤ most → unless b n ≤ most
+unless-most : (b : Bool) (n most : ℕ) → n ≤ most → unless b n ≤ most
 unless-most true n most l = omega arith
 unless-most false n most l = l
 
 -- tests in their order
-pub two-most : (a b : Bool) (x y most : ℕ) → x ≤ most → y ≤ most → orElse (unless a x) (unless b y) ≤ most
+two-most : (a b : Bool) (x y most : ℕ) → x ≤ most → y ≤ most → orElse (unless a x) (unless b y) ≤ most
 two-most a b x y most p q = or-else-most _ _ most (unless-most a x most p) (unless-most b y most q)
 
-pub three-most : (a b d : Bool) (x y z most : ℕ) → x ≤ most → y ≤ most → z ≤ most → orElse (unless a x) (orElse (unless b y) (unless d z)) ≤ most
+three-most : (a b d : Bool) (x y z most : ℕ) → x ≤ most → y ≤ most → z ≤ most → orElse (unless a x) (orElse (unless b y) (unless d z)) ≤ most
 three-most a b d x y z most p q r =
     or-else-most _ _ most (unless-most a x most p) (two-most b d y z most q r)
 
@@ -71,16 +73,36 @@ module _ {S : Type 0} (r : Reader S) (most : ℕ) (five : 5 ≤ most) (of-frame 
       go false h = h
 
   module _ (bytes : ℕ) (s : S) (t : List ℕ) where
-    pub fine-by-number : faultOf (readText r bytes s t) .number ≡ 0 → faultOf (readText r bytes s t) ≡ fine
+    fine-by-number : faultOf (readText r bytes s t) .number ≡ 0 → faultOf (readText r bytes s t) ≡ fine
     fine-by-number = go (readText r bytes s t) (text-told bytes s t)
       where
         go : (x : Read S) → Told x → faultOf x .number ≡ 0 → faultOf x ≡ fine
         go (bad x) h e = absurd (h .0 e)
         go (got u) h e = refl
 
-    pub number-most : faultOf (readText r bytes s t) .number ≤ most
+    number-most : faultOf (readText r bytes s t) .number ≤ most
     number-most = go (readText r bytes s t) (text-told bytes s t)
       where
         go : (x : Read S) → Told x → faultOf x .number ≤ most
         go (bad x) h = h .1
         go (got u) h = omega arith
+
+-- OF A CATALOGUE'S TEXT no number above 8 is told
+frame-most : (s : Reading) (f : List ℕ) → catalogueReader limits .fault s f ≤ 8
+frame-most s f = three-most (orderFits s f) (contentFits (s .sofar) f) (roomFits limits (s .sofar) f) 5 6 7 8 (omega arith) (omega arith) (omega arith)
+
+end-most : (s : Reading) → catalogueReader limits .last s ≤ 8
+end-most s = unless-most (rootFits (s .sofar)) 8 8 (omega arith)
+
+pub text-fine : (t : List ℕ) → textFault limits t .number ≡ 0 → textFault limits t ≡ fine
+text-fine t e = fine-by-number (catalogueReader limits) 8 (omega arith) frame-most end-most (limits .bytes) (reading 0 noCatalogue) t e
+
+pub text-most : (t : List ℕ) → textFault limits t .number ≤ 8
+text-most t = number-most (catalogueReader limits) 8 (omega arith) frame-most end-most (limits .bytes) (reading 0 noCatalogue) t
+
+-- and of a sheet's none above 13
+pub sheet-fine : (c : Catalogue) (h : List ℕ) → sheetFault limits c h .number ≡ 0 → sheetFault limits c h ≡ fine
+sheet-fine c h e =
+    fine-by-number (sheetReader c) 13 (omega arith)
+    (λ s f. two-most (sheetOrderFits s f) (sheetContentFits c s f) 5 6 13 (omega arith) (omega arith))
+    (λ s. unless-most (refutes c (lastLine c (s .entries))) 13 13 (omega arith)) (limits .bytes) (sheetReading 0 0 []) h e

@@ -9,7 +9,7 @@ use lib.Dec.{leb}
 use lib.ListN.{length, take}
 use Rattle.rules.specs.Lines.{Fault, fault, fine}
 use Rattle.rules.specs.Frames.{catalogues, sheets}
-use Rattle.rules.specs.Catalogue.{Catalogue, limits, textFault, catalogueOf}
+use Rattle.rules.specs.Catalogue.{limits, textFault, catalogueOf}
 use Rattle.rules.specs.Sheet.{Entry, isRefuting, sheetFault, sheetText}
 use Rattle.rules.specs.Promises.{SomeValid}
 use Rattle.picker.specs.Entry.{workLeast, zeroed, isFine, areasFit, PickOwes}
