@@ -1,0 +1,2 @@
+-- Lemmas that the proofs of this crate share, and laws for the layers below.
+pub mod Faults
