@@ -1,2 +1,5 @@
 -- Lemmas that the proofs of this crate share, and laws for the layers below.
 pub mod Faults
+pub mod Kept
+pub mod Steps
+pub mod Finished
