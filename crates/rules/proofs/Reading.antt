@@ -19,7 +19,8 @@ use Rattle.rules.specs.Catalogue.{CarriedLimits, WellFormed, Carried, ca
 use Rattle.rules.specs.Catalogue.{isVersion, isCaret, isNeed, lastVersion, versionIn, needIn, hasVersion, isOlder, orderFits, contentFits}
 use Rattle.rules.specs.Catalogue.{roomFits, rootFits, textFault}
 use Rattle.rules.specs.Promises.{ReadsWellFormed}
-use Rattle.rules.proofs.Lists.{and-fst, and-snd, and-both, or-cases, or-fst, or-snd, same-or-not, longer, length-last, keep-more, one-more, one-more-pair}
+use Rattle.rules.proofs.Lists.{and-fst, and-snd, and-both, or-cases, or-fst, or-snd, same-or-not, longer, length-last, one-more, one-more-pair}
+use Rattle.rules.proofs.Lists.{keep-more}
 use Rattle.rules.proofs.Written.{good-bytes}
 use Rattle.rules.proofs.Readers.{Run, Good, orElse-none, unless-none, fine-text, run-keeps}
 

@@ -7,11 +7,11 @@ use Rattle.sheets.proofs.frame.after.Tie as tie
 
 returns : tie.Need-returns
 unfolding after
-returns c = rw (eq-eqb (c .before .before .args .f .kind) 32 (c .if1 .taken))
+returns c = rw (eq-eqb _ 32 (c .if1 .taken))
 
 returns-2 : tie.Need-returns-2
 unfolding after
-returns-2 c = rw (ne-eqb (c .before .before .before .before .args .f .kind) 32 (c .before .before .if1 .left), eq-eqb (c .before .before .before .before .args .f .kind) 36 (c .if2 .taken))
+returns-2 c = rw (ne-eqb _ 32 (c .before .before .if1 .left), eq-eqb _ 36 (c .if2 .taken))
 
 one-less-requires : tie.Need-one-less-requires
 one-less-requires c κs = search needs
@@ -22,8 +22,8 @@ add-t5 c = search needs
 returns-3 : tie.Need-returns-3
 unfolding after
 returns-3 c =
-    let given = c .before .before .before .before .before .before .args in
-    rw (ne-eqb (given .f .kind) 32 (c .before .before .before .before .if1 .left), ne-eqb (given .f .kind) 36 (c .before .before .if2 .left), c .before .one-less .ensures)
+    let second = c .before .before in
+    rw (ne-eqb _ 32 (second .before .before .if1 .left), ne-eqb _ 36 (second .if2 .left), c .before .one-less .ensures)
 
 pub after-spec : {M : Type 1} → statement M
 after-spec = tie.close (tie.spec returns returns-2 one-less-requires add-t5 returns-3)

@@ -34,9 +34,10 @@ cast-owner c = search needs
 
 returns : tie.Need-returns
 returns c =
-    let given = c .before .before .before .before .before .args in
+    let pairs = c .before .before in
+    let given = pairs .before .before .before .args in
     fields-told (given .frame) (given .row .first) (given .row .second) (given .row .third)
-    (c .before .before .before .before .byte-in .ensures) (c .before .before .before .pair-in .ensures) (c .before .before .pair-in2 .ensures) (c .byte-in2 .ensures)
+    (pairs .before .before .byte-in .ensures) (pairs .before .pair-in .ensures) (pairs .pair-in2 .ensures) (c .byte-in2 .ensures)
 
 pub fields-of-spec : {M : Type 1} → statement M
 fields-of-spec =

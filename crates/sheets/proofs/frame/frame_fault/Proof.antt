@@ -10,7 +10,7 @@ head-fault-requires c κs = search needs
 
 returns : tie.Need-returns
 unfolding frameFault
-returns c = rw (eq-eqb (c .before .before .before .args .f .kind) 32 (c .before .if1 .taken)) (c .head-fault .ensures)
+returns c = rw (eq-eqb _ 32 (c .before .if1 .taken)) (c .head-fault .ensures)
 
 need-fault-requires : tie.Need-need-fault-requires
 need-fault-requires c κs = search needs
@@ -18,8 +18,8 @@ need-fault-requires c κs = search needs
 returns-2 : tie.Need-returns-2
 unfolding frameFault
 returns-2 c =
-    let kind = c .before .before .before .before .before .args .f .kind in
-    rw (ne-eqb kind 32 (c .before .before .before .if1 .left), eq-eqb kind 33 (c .before .if2 .taken)) (c .need-fault .ensures)
+    let second = c .before in
+    rw (ne-eqb _ 32 (second .before .before .if1 .left), eq-eqb _ 33 (second .if2 .taken)) (c .need-fault .ensures)
 
 resolved-fault-requires : tie.Need-resolved-fault-requires
 resolved-fault-requires c κs = search needs
@@ -27,8 +27,9 @@ resolved-fault-requires c κs = search needs
 returns-3 : tie.Need-returns-3
 unfolding frameFault
 returns-3 c =
-    let kind = c .before .before .before .before .before .before .before .args .f .kind in
-    rw (ne-eqb kind 32 (c .before .before .before .before .before .if1 .left), ne-eqb kind 33 (c .before .before .before .if2 .left), eq-eqb kind 34 (c .before .if3 .taken)) (c .resolved-fault .ensures)
+    let third = c .before in
+    let second = third .before .before in
+    rw (ne-eqb _ 32 (second .before .before .if1 .left), ne-eqb _ 33 (second .if2 .left), eq-eqb _ 34 (third .if3 .taken)) (c .resolved-fault .ensures)
 
 end-fault-requires : tie.Need-end-fault-requires
 end-fault-requires c κs = search needs
@@ -36,8 +37,9 @@ end-fault-requires c κs = search needs
 returns-4 : tie.Need-returns-4
 unfolding frameFault
 returns-4 c =
-    let kind = c .before .before .before .before .before .before .before .args .f .kind in
-    rw (ne-eqb kind 32 (c .before .before .before .before .before .if1 .left), ne-eqb kind 33 (c .before .before .before .if2 .left), ne-eqb kind 34 (c .before .if3 .left)) (c .end-fault .ensures)
+    let third = c .before in
+    let second = third .before .before in
+    rw (ne-eqb _ 32 (second .before .before .if1 .left), ne-eqb _ 33 (second .if2 .left), ne-eqb _ 34 (third .if3 .left)) (c .end-fault .ensures)
 
 pub frame-fault-spec : {M : Type 1} → statement M
 frame-fault-spec =

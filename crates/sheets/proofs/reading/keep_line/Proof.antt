@@ -13,7 +13,9 @@ same-length c = search needs
 
 returns : tie.Need-returns
 unfolding keptLine
-returns c = rw (eq-eqb (c .before .before .before .before .before .before .before .before .before .before .before .before .before .before .before .args .f .kind) 33 (c .before .before .before .before .if1 .taken)) (c .before .before .need-row .ensures)
+returns c =
+    let written = c .before .before in
+    rw (eq-eqb _ 33 (written .before .before .if1 .taken)) (written .need-row .ensures)
 
 resolved-row-requires : tie.Need-resolved-row-requires
 resolved-row-requires c κs = search needs
@@ -24,14 +26,13 @@ same-length-2 c = search needs
 returns-2 : tie.Need-returns-2
 unfolding keptLine
 returns-2 c =
-    let kind = c .before .before .before .before .before .before .before .before .before .before .before .before .before .before .before .before .before .before .args .f .kind in
-    rw (ne-eqb kind 33 (c .before .before .before .before .before .before .before .if1 .left), eq-eqb kind 34 (c .before .before .before .before .before .if2 .taken)) (c .before .before .resolved-row .ensures)
+    let written = c .before .before in
+    let resolved = written .before .before .before in
+    rw (ne-eqb _ 33 (resolved .before .before .if1 .left), eq-eqb _ 34 (resolved .if2 .taken)) (written .resolved-row .ensures)
 
 returns-3 : tie.Need-returns-3
 unfolding keptLine
-returns-3 c =
-    let kind = c .before .before .before .before .before .before .before .before .before .before .before .before .before .args .f .kind in
-    rw (ne-eqb kind 33 (c .before .before .if1 .left), ne-eqb kind 34 (c .if2 .left))
+returns-3 c = rw (ne-eqb _ 33 (c .before .before .if1 .left), ne-eqb _ 34 (c .if2 .left))
 
 pub keep-line-spec : {M : Type 1} → statement M
 keep-line-spec =

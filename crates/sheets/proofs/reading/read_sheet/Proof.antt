@@ -5,7 +5,7 @@ use Rattle.sheets.proofs.reading.read_sheet.Statement.{statement}
 use Rattle.sheets.proofs.reading.read_sheet.Tie as tie
 
 returns : tie.Need-returns
-returns c = λ t cat g. too-long cat (c .before .before .before .before .before .before .before .before .before .before .before .args .text .now) (c .if1 .taken)
+returns c = λ t cat g. too-long cat _ (c .if1 .taken)
 
 read-lines-requires : tie.Need-read-lines-requires
 read-lines-requires c κs = search needs
@@ -26,10 +26,18 @@ same-length : tie.Need-same-length
 same-length c = search needs
 
 returns-2 : tie.Need-returns-2
-returns-2 c = λ t cat g.
-    sheet-judged g (c .before .before .before .before .before .before .before .before .before .read-lines .ensures t cat g)
-    (record { row-is = c .before .before .before .before .one-less .ensures; refuted-is = c .before .before .before .refutes .ensures; last-is = c .before .unless .ensures; told-is = c .end-fault .ensures })
-    (c .before .before .before .before .before .before .before .before .before .before .before .if1 .left)
+returns-2 c =
+    let row = c .before .before .before .before in
+    let lines = row .before .before .before .before .before in
+    λ t cat g.
+    sheet-judged g (lines .read-lines .ensures t cat g)
+    (record {
+      row-is = row .one-less .ensures;
+      refuted-is = c .before .before .before .refutes .ensures;
+      last-is = c .before .unless .ensures;
+      told-is = c .end-fault .ensures;
+    })
+    (lines .before .before .if1 .left)
 
 pub read-sheet-spec : {M : Type 1} → statement M
 read-sheet-spec =
