@@ -17,7 +17,7 @@ use Rattle.rows.specs.Needed.{citedIn, needBit, needVersions, needWord}
 use Rattle.rows.specs.Stands.{Narrow}
 use Rattle.rows.specs.Laws.{NeedStands}
 use Rattle.rows.specs.declared.needed.Cited.{Cited}
-use Rattle.rows.proofs.Standing.{row-bit, row-no-bit, built-bit, no-built-bit}
+use Rattle.rows.proofs.Standing.{row-bit, row-no-bit, built-bit, no-built-bit, few-modules}
 
 -- tests of the same parts
 same-test : {a b x y d e u v : Bool} → a ≡ b → x ≡ y → d ≡ e → u ≡ v → cond a x (cond d u true) ≡ cond b y (cond e v true)
@@ -55,7 +55,7 @@ module _ (t : Tables) (c : Catalogue) (holds : Holds t c) (k : ℕ) where
 
     -- a module's word is no word of absent
     word-is : (m : ℕ) → m < c .modules → word m ≡ needVersions (t .values) (t .firsts) (t .counts) need m
-    word-is m l = cond-false _ _ (ne-eqb m absentWord (λ e. omega (arith, narrow .modules)))
+    word-is m l = cond-false _ _ (ne-eqb m absentWord (λ e. omega (arith, few-modules narrow l)))
 
     absent-bit : (m : ℕ) → m < c .modules → hasBit (word absentWord) m ≡ needLine c k m 0
     absent-bit m l =
@@ -77,14 +77,11 @@ module _ (t : Tables) (c : Catalogue) (holds : Holds t c) (k : ℕ) where
 pub need-stands : NeedStands
 need-stands t c holds narrow area row k fits =
     record {
-      absent = λ m l. row-bit area row g fits absentWord m (omega arith) (omega (arith, narrow .modules)) ∙ absent-bit t c holds k narrow m l;
+      absent = λ m l. row-bit area row g fits absentWord m (omega arith) (few-modules narrow l) ∙ absent-bit t c holds k narrow m l;
       versions = λ m j l i.
-          row-bit area row g fits m j (few m l) (omega (arith, narrow .versions m)) ∙ version-bit t c holds k narrow m j l i;
-      unused = λ m j l i. row-no-bit area row g fits m j (few m l) (no-version-bit t c holds k narrow m j l i);
+          row-bit area row g fits m j (omega (arith, few-modules narrow l)) (omega (arith, narrow .versions m)) ∙ version-bit t c holds k narrow m j l i;
+      unused = λ m j l i. row-no-bit area row g fits m j (omega (arith, few-modules narrow l)) (no-version-bit t c holds k narrow m j l i);
     }
   where
     g : ℕ → ℕ
     g = word t c holds k narrow
-
-    few : (m : ℕ) → m < c .modules → m < 33
-    few m l = omega (arith, narrow .modules)

@@ -13,7 +13,7 @@ use Rattle.rows.specs.Area.{wordAt, absentWord}
 use Rattle.rows.specs.Derived.{resolvedAbsent, resolvedWord}
 use Rattle.rows.specs.Laws.{ResolvedStands}
 use Rattle.rows.proofs.Halving.{or-bits, and-bits}
-use Rattle.rows.proofs.Standing.{row-bit, row-no-bit, built-bit}
+use Rattle.rows.proofs.Standing.{row-bit, row-no-bit, built-bit, few-modules}
 
 -- the union at the module resolved at, the intersection at every other
 abbrev joined : (here one other : Bool) → Bool
@@ -54,21 +54,19 @@ unfolding resolved
 resolved-stands t c narrow area row one other at f g fits s u =
     record {
       absent = λ m l.
-          row-bit area row words fits absentWord m (omega arith) (few m l) ∙
-          absent-bit at (wordAt area one absentWord) (wordAt area other absentWord) m (few m l) ∙ ap₂ (joined (eqb m at)) (s .absent m l) (u .absent m l);
+          row-bit area row words fits absentWord m (omega arith) (few-modules narrow l) ∙
+          absent-bit at (wordAt area one absentWord) (wordAt area other absentWord) m (few-modules narrow l) ∙
+          ap₂ (joined (eqb m at)) (s .absent m l) (u .absent m l);
       versions = λ m j l i.
-          row-bit area row words fits m j (omega (arith, few m l)) (omega (arith, narrow .versions m)) ∙ bit m j l ∙
+          row-bit area row words fits m j (omega (arith, few-modules narrow l)) (omega (arith, narrow .versions m)) ∙ bit m j l ∙
           ap₂ (joined (eqb m at)) (s .versions m j l i) (u .versions m j l i);
       unused = λ m j l i.
-          row-no-bit area row words fits m j (omega (arith, few m l))
+          row-no-bit area row words fits m j (omega (arith, few-modules narrow l))
           (bit m j l ∙ ap₂ (joined (eqb m at)) (s .unused m j l i) (u .unused m j l i) ∙ sym (cond-same (eqb m at)));
     }
   where
     words : ℕ → ℕ
     words j = resolvedWord at (wordAt area one j) (wordAt area other j) j
 
-    few : (m : ℕ) → m < c .modules → m < 32
-    few m l = omega (arith, narrow .modules)
-
     bit : (m j : ℕ) → m < c .modules → hasBit (words m) j ≡ joined (eqb m at) (hasBit (wordAt area one m) j) (hasBit (wordAt area other m) j)
-    bit m j l = version-bit at (wordAt area one m) (wordAt area other m) m j (few m l)
+    bit m j l = version-bit at (wordAt area one m) (wordAt area other m) m j (few-modules narrow l)

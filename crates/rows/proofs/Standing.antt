@@ -7,9 +7,11 @@ use native.Mathlib.Omega.{arith}
 use native.Mathlib.Nat.{min-eq-left}
 use borrow.Author.Tests.{lt-ltb, le-ltb}
 use lib.Dec.{ltb}
+use Rattle.rules.specs.Catalogue.{Catalogue}
+use Rattle.store.specs.declared.tables.Tables.{Tables}
 use Rattle.rows.specs.Bits.{hasBit, bitsOf, inWord}
 use Rattle.rows.specs.Area.{wordAt, withRow, absentWord}
-use Rattle.rows.specs.Stands.{HasRow}
+use Rattle.rows.specs.Stands.{HasRow, Narrow}
 use Rattle.rows.specs.Laws.{OthersKept}
 use Rattle.rows.proofs.Words.{words-other, words-same}
 use Rattle.rows.proofs.Halving.{bits-read, bits-cut}
@@ -41,17 +43,18 @@ module _ (f : ℕ → Bool) (first n j : ℕ) (l : n ≤ 32) where
   pub no-built-bit : n ≤ j → hasBit (bitsOf f first (inWord n)) j ≡ false
   no-built-bit h = built-read ∙ ap (λ (b : Bool). b && f (first + j)) (le-ltb j n h)
 
+-- a module's number is one of a module's word
+pub few-modules : {t : Tables} {c : Catalogue} {m : ℕ} → Narrow t c → m < c .modules → m < 32
+few-modules narrow l = omega (arith, narrow .modules)
+
 -- THE LAW: other rows are read as before
 pub others-kept : OthersKept
 others-kept t c narrow area row other g f n s =
     record {
       absent = λ m l. rw (kept absentWord (omega arith)) (s .absent m l);
-      versions = λ m j l i. rw (kept m (few m l)) (s .versions m j l i);
-      unused = λ m j l i. rw (kept m (few m l)) (s .unused m j l i);
+      versions = λ m j l i. rw (kept m (omega (arith, few-modules narrow l))) (s .versions m j l i);
+      unused = λ m j l i. rw (kept m (omega (arith, few-modules narrow l))) (s .unused m j l i);
     }
   where
     kept : (word : ℕ) → word < 33 → wordAt (withRow area row g) other word ≡ wordAt area other word
     kept word l = words-other area row g 33 other word (λ j i e. n (omega arith))
-
-    few : (m : ℕ) → m < c .modules → m < 33
-    few m l = omega (arith, narrow .modules)

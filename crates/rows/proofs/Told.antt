@@ -1,7 +1,7 @@
 -- What a need line cites and what the tests of a row answer, put together from what the calls tell: each premise is what one call ensures.
 -- Assumes nothing.
 use mathlib.Core.Path.{_≡_, sym, _∙_, ap, ap₂}
-use mathlib.Core.Bool.{Bool, true, false, _&&_, _||_, not}
+use mathlib.Core.Bool.{Bool, true, false, _&&_, _||_, not, and-true, and-false}
 use mathlib.Core.List.{List}
 use Prim.Native.Nat.{ℕ}
 use borrow.Author.Tests.{not-true, not-false}
@@ -9,19 +9,21 @@ use lib.Bits.{bitAnd, bitOr}
 use lib.Dec.{eqb}
 use lib.ListN.{getD}
 use Rattle.rules.specs.Lists.{all, below}
-use Rattle.store.specs.Frame.{moduleNo, place, version}
+use Rattle.store.specs.Frame.{moduleNo, place}
+use Rattle.store.specs.Tables.{needIn}
+use Rattle.store.specs.declared.lookup.Need.{Need}
 use Rattle.rows.specs.Bits.{hasBit, bitsOf, marks, allBits}
 use Rattle.rows.specs.Area.{wordAt, withRow, absentWord}
 use Rattle.rows.specs.Needed.{citedIn, needWord}
 use Rattle.rows.specs.Derived.{resolvedWord, isFullIn, refutesIn}
 use Rattle.rows.specs.declared.needed.Cited.{Cited}
 
-abbrev citedOf : (needy place target low high : ℕ) → Cited
-citedOf n p t a b = record { needy = moduleNo n; place = place p; target = moduleNo t; low = version a; high = version b }
+abbrev citedOf : (needy place : ℕ) → Need → Cited
+citedOf n p z = record { needy = moduleNo n; place = place p; target = z .target; low = z .low; high = z .high }
 
-pub cited-told : (os ys ts ls hs : List ℕ) (k : ℕ) {p n t a b : ℕ} → p ≡ getD ys k 0 → n ≡ getD os p 0 → t ≡ getD ts k 0 → a ≡ getD ls k 0 →
-    b ≡ getD hs k 0 → citedOf n p t a b ≡ citedIn os ys ts ls hs k
-cited-told os ys ts ls hs k e f g h i = rw (f, e, g, h, i)
+pub cited-told : (os ys ts ls hs : List ℕ) (k : ℕ) {p n : ℕ} {z : Need} → p ≡ getD ys k 0 → n ≡ getD os p 0 → z ≡ needIn ts ls hs k →
+    citedOf n p z ≡ citedIn os ys ts ls hs k
+cited-told os ys ts ls hs k e f g = rw (f, e, g)
 
 -- the area with the row of a need that is the need cited
 pub row-told : (l : List ℕ) (r : ℕ) (vs fs ns : List ℕ) (ms : ℕ) {area : List ℕ} {n cited : Cited} → n ≡ cited →
@@ -50,11 +52,11 @@ module _ (l : List ℕ) (r : ℕ) (ns : List ℕ) (m : ℕ) {b : Bool} (e : b �
   pub module-failed : not (eqb m 0 || b) ≡ true → rootOrFull l r ns m ≡ false
   module-failed h = rw (← e) (not-true (eqb m 0 || b) h)
 
-module _ (l : List ℕ) (r : ℕ) (ns : List ℕ) (ms : ℕ) {x : ℕ} {b : Bool} (e : x ≡ wordAt l r 0) (f : b ≡ hasBit x 0) where
-  pub root-told : b ≡ false → false ≡ refutesIn l r ns ms
+module _ (l : List ℕ) (r : ℕ) (ns : List ℕ) (ms : ℕ) where
+  pub failed-told : all (rootOrFull l r ns) (below ms) ≡ false → false ≡ refutesIn l r ns ms
   unfolding refutesIn
-  root-told g = rw (← e, ← f, g)
+  failed-told h = rw h (sym (and-false (hasBit (wordAt l r 0) 0)))
 
-  pub modules-told : {v : Bool} → b ≡ true → all (rootOrFull l r ns) (below ms) ≡ v → v ≡ refutesIn l r ns ms
+  pub passed-told : {x : ℕ} {b : Bool} → x ≡ wordAt l r 0 → b ≡ hasBit x 0 → all (rootOrFull l r ns) (below ms) ≡ true → b ≡ refutesIn l r ns ms
   unfolding refutesIn
-  modules-told g h = rw (← e, ← f, g) (sym h)
+  passed-told e f h = rw (h, f, e) (sym (and-true (hasBit (wordAt l r 0) 0)))

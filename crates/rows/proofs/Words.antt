@@ -94,7 +94,7 @@ word-same l r j x h = rw (first, second, third, last) (bytes-word x)
 
 -- THE FIRST WORDS OF A ROW WRITTEN keep the area's length
 module _ (l : List ℕ) (r : ℕ) (g : ℕ → ℕ) where
-  words-size : (n : ℕ) → length (withWords l r g n) ≡ length l
+  pub words-size : (n : ℕ) → length (withWords l r g n) ≡ length l
   unfolding withWords
   words-size zero = refl
   words-size (suc n) = word-size (withWords l r g n) r n (g n) ∙ words-size n

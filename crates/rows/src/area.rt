@@ -2,15 +2,16 @@
 ghost use mathlib.Core.Path.{_≡_};
 ghost use lib.ListN.{getD, set};
 ghost use Rattle.rows.specs.Area.{wordAt, withWord};
+use store::limits::MODULES;
 
-// Words of a row: one for each module, and the word of absent.
-pub const WORDS: u16 = 33;
-// The word of a row that says which modules' sets have absent.
-pub const ABSENT: u16 = 32;
-// Bytes of a row, and of a word.
-pub const ROW_BYTES: usize = 132;
-
+// The word of a row that says which modules' sets have absent; the words before it are the modules'.
+pub const ABSENT: u16 = MODULES;
+// Words of a row.
+pub const WORDS: u16 = ABSENT + 1;
+// Bytes of a word.
 pub const WORD_BYTES: usize = 4;
+// Bytes of a row.
+pub const ROW_BYTES: usize = WORD_BYTES * WORDS as usize;
 
 fn byte_at(area: &[u8], i: usize) -> u8
     ensures { λ r. ⌜ r ≡ getD (now (area .entry)) i 0 ⌝ }
@@ -29,6 +30,7 @@ fn put_byte(area: &mut [u8], i: usize, x: u8)
     }
 }
 
+// A word of a row.
 pub fn word_at(area: &[u8], row: u16, word: u16) -> u32
     ensures { λ r. ⌜ r ≡ wordAt (now (area .entry)) row word ⌝ }
 {
@@ -40,6 +42,7 @@ pub fn word_at(area: &[u8], row: u16, word: u16) -> u32
     first * 16777216 + second * 65536 + third * 256 + last
 }
 
+// Writes a word of a row. Every other byte of the area stays.
 pub fn put_word(area: &mut [u8], row: u16, word: u16, x: u32)
     ensures { λ r. ⌜ now (area .exit) ≡ withWord (now (area .entry)) row word x ⌝ }
 {

@@ -7,6 +7,7 @@ ghost use Rattle.rows.specs.Bits.{digit, hasBit, bitsOf, inWord, marks};
 // Bits of a word.
 pub const BITS: u16 = 32;
 
+// A bit as a number.
 pub fn digit_of(bit: bool) -> u32
     ensures { λ r. ⌜ r ≡ digit bit ⌝ }
 {
@@ -26,6 +27,7 @@ pub fn in_word(count: u16) -> u16
     BITS
 }
 
+// One answer at a number, another everywhere else.
 fn mark(k: u16, at: u16, there: bool, elsewhere: bool) -> bool
     ensures { λ r. ⌜ r ≡ cond (eqb k at) there elsewhere ⌝ }
 {
@@ -49,6 +51,7 @@ pub fn marked(count: u16, at: u16, there: bool, elsewhere: bool) -> u32
     word
 }
 
+// A bit of a word; the lowest is bit 0.
 pub fn has_bit(word: u32, at: u16) -> bool
     ensures { λ r. ⌜ r ≡ hasBit word at ⌝ }
 {

@@ -10,7 +10,7 @@ use frames::numbers::ModuleNo;
 use store::access;
 
 // Word j of a line resolved at module m, from that word of both lines.
-pub fn resolved_word(m: ModuleNo, x: u32, y: u32, j: u16) -> u32
+fn resolved_word(m: ModuleNo, x: u32, y: u32, j: u16) -> u32
     ensures { λ r. ⌜ r ≡ resolvedWord (m .0) x y j ⌝ }
 {
     if j == ABSENT {
@@ -37,7 +37,7 @@ pub fn resolved_row(work: &mut [u8], row: u16, a: u16, b: u16, m: ModuleNo)
 }
 
 // A module's set has absent and every version.
-pub fn is_full<'a>(work: &'a [u8], row: u16, counts: &'a [u16], m: ModuleNo) -> bool
+fn is_full<'a>(work: &'a [u8], row: u16, counts: &'a [u16], m: ModuleNo) -> bool
     ensures { λ r. ⌜ r ≡ isFullIn (now (work .entry)) row (now (counts .entry)) (m .0) ⌝ }
 {
     let absent = bits::has_bit(area::word_at(work, row, ABSENT), m.0);
@@ -51,9 +51,6 @@ pub fn refutes<'a>(work: &'a [u8], row: u16, counts: &'a [u16], modules: u16) ->
     ensures { λ r. ⌜ r ≡ refutesIn (now (work .entry)) row (now (counts .entry)) modules ⌝ }
 {
     let root = bits::has_bit(area::word_at(work, row, 0), 0);
-    if !root {
-        return false;
-    }
     let mut m: u16 = 0;
     while m < modules {
         let full = is_full(work, row, counts, ModuleNo(m));
@@ -62,5 +59,5 @@ pub fn refutes<'a>(work: &'a [u8], row: u16, counts: &'a [u16], modules: u16) ->
         }
         m += 1;
     }
-    true
+    root
 }

@@ -10,6 +10,7 @@ use frames::numbers::ModuleNo;
 use frames::numbers::Place;
 use frames::numbers::Version;
 use store::access;
+use store::lookup;
 
 // A need as a need line cites it: the module and the place of the version that has it, the module that it names, and the range.
 pub struct Cited {
@@ -21,7 +22,7 @@ pub struct Cited {
 }
 
 // A need by its number.
-pub fn cited_at<'a>(
+fn cited_at<'a>(
     owners: &'a [u16],
     needies: &'a [u16],
     targets: &'a [u16],
@@ -31,23 +32,23 @@ pub fn cited_at<'a>(
 ) -> Cited
     ensures { λ r. ⌜ r ≡ citedIn (now (owners .entry)) (now (needies .entry)) (now (targets .entry)) (now (lows .entry)) (now (highs .entry)) k ⌝ }
 {
-    let at = k as usize;
-    let place = access::half_at(needies, at);
+    let place = access::half_at(needies, k as usize);
     let needy = access::half_at(owners, place as usize);
-    let target = access::half_at(targets, at);
-    let low = access::word_at(lows, at);
-    let high = access::word_at(highs, at);
+    let need = lookup::need_at(targets, lows, highs, k);
+    let target = need.target;
+    let low = need.low;
+    let high = need.high;
     Cited {
         needy: ModuleNo(needy),
         place: Place(place),
-        target: ModuleNo(target),
-        low: Version(low),
-        high: Version(high),
+        target: target,
+        low: low,
+        high: high,
     }
 }
 
 // The version at a place is in its module's set.
-pub fn need_bit(values: &[u32], need: Cited, m: ModuleNo, place: u32) -> bool
+fn need_bit(values: &[u32], need: Cited, m: ModuleNo, place: u32) -> bool
     ensures { λ r. ⌜ r ≡ needBit (now (values .entry)) need (m .0) place ⌝ }
 {
     let needy = need.needy;
@@ -66,7 +67,7 @@ pub fn need_bit(values: &[u32], need: Cited, m: ModuleNo, place: u32) -> bool
 }
 
 // A module's word: its versions that are in its set.
-pub fn need_versions<'a>(
+fn need_versions<'a>(
     values: &'a [u32],
     firsts: &'a [u16],
     counts: &'a [u16],
@@ -75,21 +76,19 @@ pub fn need_versions<'a>(
 ) -> u32
     ensures { λ r. ⌜ r ≡ needVersions (now (values .entry)) (now (firsts .entry)) (now (counts .entry)) need (m .0) ⌝ }
 {
-    let at = m.0 as usize;
-    let first = access::half_at(firsts, at);
-    let count = access::half_at(counts, at);
+    let places = lookup::versions_of(firsts, counts, m);
     let mut word: u32 = 0;
-    let mut k = bits::in_word(count);
+    let mut k = bits::in_word(places.count);
     while 0 < k {
         k -= 1;
-        let bit = need_bit(values, need, m, first as u32 + k as u32);
+        let bit = need_bit(values, need, m, places.first as u32 + k as u32);
         word = word * 2 + bits::digit_of(bit);
     }
     word
 }
 
 // A word of the row: the word of absent has every module but the needing one.
-pub fn need_word<'a>(
+fn need_word<'a>(
     values: &'a [u32],
     firsts: &'a [u16],
     counts: &'a [u16],
@@ -107,7 +106,7 @@ pub fn need_word<'a>(
 }
 
 // Writes the row of a need.
-pub fn write_need<'a>(
+fn write_need<'a>(
     work: &'a mut [u8],
     row: u16,
     values: &'a [u32],

@@ -1,9 +1,8 @@
 -- `rows::derived::refutes` meets its contract. The loop's invariant: whether all modules pass is whether those from `m` on do. Assumes nothing.
 use Prim.Native.Nat.{_-_}
 use borrow.Author.Needs.{needs}
-use borrow.Author.Tests.{not-true, not-false}
 use Rattle.rows.proofs.Building.{Passed, none-passed, one-passed, one-failed, all-passed}
-use Rattle.rows.proofs.Told.{rootOrFull, module-passed, module-failed, root-told, modules-told}
+use Rattle.rows.proofs.Told.{rootOrFull, module-passed, module-failed, failed-told, passed-told}
 use Rattle.rows.proofs.derived.refutes.Statement.{statement}
 use Rattle.rows.proofs.derived.refutes.Tie as tie
 
@@ -19,28 +18,19 @@ word-at-requires c κs = search needs
 has-bit-requires : tie.Need-has-bit-requires Inv-loop μ-loop
 has-bit-requires c κs = search needs
 
-returns : tie.Need-returns Inv-loop μ-loop
-returns c =
-    let word = c .before .before in
-    let given = word .before .before .before .args in
-    root-told (given .work .now) (given .row) (given .counts .now) (given .modules) (word .word-at .ensures) (c .before .has-bit .ensures)
-    (not-true _ (c .if1 .taken))
-
 loop-holds : tie.Need-loop-holds Inv-loop μ-loop
 loop-holds c = none-passed _ _
 
 is-full-requires : tie.Need-is-full-requires Inv-loop μ-loop
 is-full-requires c κs = search needs
 
-returns-2 : tie.Need-returns-2 Inv-loop μ-loop
-returns-2 c =
+returns : tie.Need-returns Inv-loop μ-loop
+returns c =
     let turn = c .before .before in
-    let word = turn .before .before .before .before in
-    let given = word .before .before .before .args in
-    modules-told (given .work .now) (given .row) (given .counts .now) (given .modules) (word .word-at .ensures)
-    (turn .before .before .before .has-bit .ensures) (not-false _ (turn .before .before .if1 .left))
+    let given = turn .before .before .before .before .before .before .args in
+    failed-told (given .work .now) (given .row) (given .counts .now) (given .modules)
     (one-failed _ _ (turn .before .loop .inv) (turn .loop-test .taken)
-    (module-failed (given .work .now) (given .row) (given .counts .now) (turn .before .loop .m) (c .before .is-full .ensures) (c .if2 .taken)))
+    (module-failed (given .work .now) (given .row) (given .counts .now) (turn .before .loop .m) (c .before .is-full .ensures) (c .if1 .taken)))
 
 add-m : tie.Need-add-m Inv-loop μ-loop
 add-m c = search needs
@@ -51,17 +41,17 @@ loop-less c = search needs
 loop-again : tie.Need-loop-again Inv-loop μ-loop
 loop-again c =
     let turn = c .before .before in
-    let given = turn .before .before .before .before .before .before .before .args in
+    let given = turn .before .before .before .before .before .before .args in
     one-passed _ _ (turn .before .loop .inv) (turn .loop-test .taken)
-    (module-passed (given .work .now) (given .row) (given .counts .now) (turn .before .loop .m) (c .before .is-full .ensures) (c .if2 .left))
+    (module-passed (given .work .now) (given .row) (given .counts .now) (turn .before .loop .m) (c .before .is-full .ensures) (c .if1 .left))
 
-returns-3 : tie.Need-returns-3 Inv-loop μ-loop
-returns-3 c =
+returns-2 : tie.Need-returns-2 Inv-loop μ-loop
+returns-2 c =
     let root = c .before .before in
-    let word = root .before .before in
+    let word = root .before in
     let given = word .before .before .before .args in
-    modules-told (given .work .now) (given .row) (given .counts .now) (given .modules) (word .word-at .ensures) (root .before .has-bit .ensures)
-    (not-false _ (root .if1 .left)) (all-passed _ _ (c .before .loop .inv) (c .loop-test .left))
+    passed-told (given .work .now) (given .row) (given .counts .now) (given .modules) (word .word-at .ensures) (root .has-bit .ensures)
+    (all-passed _ _ (c .before .loop .inv) (c .loop-test .left))
 
 pub refutes-spec : {M : Type 1} → statement M
 refutes-spec =
@@ -71,11 +61,10 @@ refutes-spec =
     μ-loop
     word-at-requires
     has-bit-requires
-    returns
     loop-holds
     is-full-requires
-    returns-2
+    returns
     add-m
     loop-less
     loop-again
-    returns-3)
+    returns-2)

@@ -13,31 +13,17 @@ cast-half-at c = search needs
 half-at-requires-2 : tie.Need-half-at-requires-2
 half-at-requires-2 c κs = search needs
 
-half-at-requires-3 : tie.Need-half-at-requires-3
-half-at-requires-3 c κs = search needs
-
-word-at-requires : tie.Need-word-at-requires
-word-at-requires c κs = search needs
-
-word-at-requires-2 : tie.Need-word-at-requires-2
-word-at-requires-2 c κs = search needs
+need-at-requires : tie.Need-need-at-requires
+need-at-requires c κs = search needs
 
 returns : tie.Need-returns
 returns c =
-    let named = c .before .before in
+    let named = c .before .before .before in
     let owned = named .before in
     let given = owned .before .before .before .before .before .before .before .args in
     cited-told (given .owners .now) (given .needies .now) (given .targets .now) (given .lows .now) (given .highs .now) (given .k)
-    (owned .before .half-at .ensures) (owned .half-at2 .ensures) (named .half-at3 .ensures) (c .before .word-at .ensures) (c .word-at2 .ensures)
+    (owned .before .half-at .ensures) (owned .half-at2 .ensures) (named .need-at .ensures)
 
 pub cited-at-spec : {M : Type 1} → statement M
 cited-at-spec =
-    tie.close
-    (tie.spec
-    half-at-requires
-    cast-half-at
-    half-at-requires-2
-    half-at-requires-3
-    word-at-requires
-    word-at-requires-2
-    returns)
+    tie.close (tie.spec half-at-requires cast-half-at half-at-requires-2 need-at-requires returns)

@@ -2,6 +2,7 @@
 use mathlib.Core.Path.{refl, ap}
 use native.Mathlib.Omega.{arith}
 use borrow.Author.Needs.{needs}
+use Rattle.store.specs.declared.lookup.Span.{Span}
 use Rattle.rows.specs.Bits.{inWord}
 use Rattle.rows.specs.Needed.{needBit}
 use Rattle.rows.proofs.Building.{Built, digit-small, in-word-small, none-built, has-room, bit-built, all-built}
@@ -9,19 +10,13 @@ use Rattle.rows.proofs.needed.need_versions.Statement.{statement}
 use Rattle.rows.proofs.needed.need_versions.Tie as tie
 
 abbrev Inv-loop : tie.InvT-loop
-Inv-loop values firsts counts need m at first count word₀ k₀ word k = Built (needBit values need (m .0)) first (inWord count) word k
+Inv-loop values firsts counts need m places word₀ k₀ word k = Built (needBit values need (m .0)) (places .first) (inWord (places .count)) word k
 
 abbrev μ-loop : tie.MeasureT-loop
-μ-loop values firsts counts need m at first count word₀ k₀ word k = k
+μ-loop values firsts counts need m places word₀ k₀ word k = k
 
-cast-at : tie.Need-cast-at Inv-loop μ-loop
-cast-at c = search needs
-
-half-at-requires : tie.Need-half-at-requires Inv-loop μ-loop
-half-at-requires c κs = search needs
-
-half-at-requires-2 : tie.Need-half-at-requires-2 Inv-loop μ-loop
-half-at-requires-2 c κs = search needs
+versions-of-requires : tie.Need-versions-of-requires Inv-loop μ-loop
+versions-of-requires c κs = search needs
 
 in-word-requires : tie.Need-in-word-requires Inv-loop μ-loop
 in-word-requires c κs = search needs
@@ -46,7 +41,7 @@ need-bit-requires c κs = search needs
 
 mul-word : tie.Need-mul-word Inv-loop μ-loop
 mul-word c =
-    let turn = c .before in
+    let turn = c .before .before in
     let room = has-room _ _ _ (turn .before .loop .inv) (turn .loop-test .taken) (in-word-small _) in
     omega arith
 
@@ -55,7 +50,7 @@ digit-of-requires c κs = search needs
 
 add-word : tie.Need-add-word Inv-loop μ-loop
 add-word c =
-    let turn = c .before .before in
+    let turn = c .before .before .before in
     let room = has-room _ _ _ (turn .before .loop .inv) (turn .loop-test .taken) (in-word-small _) in
     let bit = digit-small (c .before .need-bit .result) in
     omega arith
@@ -65,13 +60,13 @@ loop-less c = search needs
 
 loop-again : tie.Need-loop-again Inv-loop μ-loop
 loop-again c =
-    let turn = c .before .before in
+    let turn = c .before .before .before in
     bit-built _ _ _ (turn .before .loop .inv) (turn .loop-test .taken) refl (c .before .need-bit .ensures) (c .digit-of .ensures)
 
 returns : tie.Need-returns Inv-loop μ-loop
 returns c =
-    let counted = c .before .before .before in
-    all-built _ _ _ (c .before .loop .inv) (c .loop-test .left) (counted .before .half-at .ensures) (ap inWord (counted .half-at2 .ensures))
+    let told = c .before .before .before .versions-of .ensures in
+    all-built _ _ _ (c .before .loop .inv) (c .loop-test .left) (ap (λ (s : Span). s .first) told) (ap (λ (s : Span). inWord (s .count)) told)
 
 pub need-versions-spec : {M : Type 1} → statement M
 need-versions-spec =
@@ -79,9 +74,7 @@ need-versions-spec =
     (tie.spec
     Inv-loop
     μ-loop
-    cast-at
-    half-at-requires
-    half-at-requires-2
+    versions-of-requires
     in-word-requires
     loop-holds
     sub-k
