@@ -236,7 +236,8 @@ lines-again c =
     let good = c .before .before .before .before .before .if1 .left in
     let row-kept = c .before .before .before .keep-line in (
       good,
-      line-kept (at-line l) (in-line d) (feed-there (feed-of-judged judged)) (got judged) good (c .after .ensures) (row-kept .ensures) (row-kept .kept .0),
+      line-kept (at-line l) (in-line d) (feed-there (feed-of-judged judged)) (got judged) good {after-it = row-kept .last .0}
+          (c .after .ensures) (row-kept .ensures) (row-kept .kept .0),
     )
 
 -- THE WAYS OUT: at the end of the text, at something wrong in a line, at a faulty line
