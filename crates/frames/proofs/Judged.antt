@@ -10,24 +10,16 @@ use lib.Dec.{leb, ltb, eqb}
 use lib.ListN.{length, List·getD-eq-default}
 use borrow.Author.Tests.{eq-eqb, ne-eqb, eqb-true, eqb-false, leb-true, ltb-true, ltb-false}
 use Rattle.rules.specs.Lists.{all}
-use Rattle.rules.specs.Lines.{orElse, unless, Line, line, shapeFits}
+use Rattle.rules.specs.Lines.{Line, line, shapeFits}
 use Rattle.rules.specs.Frames as Rules
 use Rattle.rules.specs.Frames.{frameOf, byteAt, kindOf, kinds, rowIn, digitsFor, sumFits, kindFits, Reader, lineFault}
 use Rattle.rules.proofs.Lists.{and-fst, and-snd, true-or-false}
-use Rattle.rules.proofs.Readers.{Good, good-line}
+use Rattle.rules.proofs.Readers.{Good, good-line, in-order}
 use Rattle.rules.proofs.Written.{hex-written, byte-small}
 use Rattle.frames.specs.Faults.{lineFaultOf}
 use Rattle.frames.specs.Kinds.{rowFor}
 use Rattle.frames.proofs.Lines.{frame-size, shape-size}
 use Rattle.frames.proofs.InLine.{longest, InLine}
-
--- equal tests in order, and what follows them where they pass
-in-order : (a b d : Bool) (x y : ℕ) → (a ≡ true → d ≡ true → x ≡ y) →
-    orElse (unless a 2) (orElse (unless b 3) (orElse (unless d 4) x)) ≡ orElse (unless a 2) (orElse (unless b 3) (orElse (unless d 4) y))
-in-order false b d x y h = refl
-in-order true false d x y h = refl
-in-order true true false x y h = refl
-in-order true true true x y h = rw (h refl refl)
 
 -- whether two numbers are equal is the same either way round
 eqb-turned : (m n : ℕ) → eqb m n ≡ eqb n m

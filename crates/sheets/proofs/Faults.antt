@@ -17,7 +17,7 @@ use Rattle.rules.proofs.Lists.{same-or-not, length-last}
 use Rattle.store.specs.Frame.{checks}
 use Rattle.sheets.specs.declared.frame.Fields.{Fields}
 use Rattle.sheets.specs.declared.frame.State.{State}
-use Rattle.sheets.specs.Frame.{stateOf, fieldsAt, frameFault, after}
+use Rattle.sheets.specs.Frame.{stateOf, fieldsAt, fieldsIn, frameFault, after}
 
 -- THE KINDS of a sheet's frames
 pub data Known (kind : ℕ) : Type 0 where
@@ -47,10 +47,6 @@ known-kind k h =
 -- the fields of a frame by its row of the table of kinds
 abbrev fieldsBy : (kind : ℕ) → (frame : List ℕ) → Fields
 fieldsBy k f = fieldsAt (rowIn kinds sheets k .first) (rowIn kinds sheets k .second) (rowIn kinds sheets k .third) f
-
--- the row being that of the frame's own kind
-abbrev pub fieldsIn : (frame : List ℕ) → Fields
-fieldsIn f = fieldsBy (kindOf f) f
 
 -- the places of the fields, kind by kind
 module _ (f : List ℕ) where

@@ -1,80 +1,61 @@
--- A sheet judged: a text that is too long is told so (`too-long`), and after the lines the test of the last line's row tells the rules' fault
--- (`sheet-judged`). Assumes nothing.
-use mathlib.Core.Path.{_≡_, refl, sym, _∙_, ap}
-use mathlib.Core.Bool.{Bool, true, false}
+-- A sheet's text read whole: a text that is too long is not read (`too-long`); of any other, the fault told after the lines and the area are those of the
+-- reader over what is lent (`sheet-read`). Assumes nothing.
+use mathlib.Core.Path.{_≡_, sym, _∙_, ap}
+use mathlib.Core.Bool.{Bool}
 use mathlib.Core.List.{List}
 use Prim.Native.Nat.{ℕ, _-_, _≤_, _<_}
-use native.Mathlib.Omega.{arith}
 use lib.Dec.{eqb}
 use lib.ListN.{length}
-use borrow.Author.Tests.{eqb-true, le-ltb, lt-ltb}
+use borrow.Author.Tests.{le-ltb, lt-ltb}
+use Rattle.rules.specs.Lines as Rules
 use Rattle.rules.specs.Lines.{fault, unless, linesOf}
 use Rattle.rules.specs.Frames.{readFrom, readText, faultOf}
-use Rattle.rules.specs.Catalogue.{Catalogue, limits}
-use Rattle.rules.specs.Sheet.{SheetReading, lastLine, refutes, sheetReader, sheetFault}
+use Rattle.rules.specs.Catalogue.{limits}
 use Rattle.frames.specs.Faults.{endFault}
 use Rattle.frames.specs.declared.faults.Fault.{Fault}
 use Rattle.frames.proofs.Steps.{Stopped, stopped-fault}
-use Rattle.store.specs.declared.tables.Tables.{Tables}
 use Rattle.rows.specs.Derived.{refutesIn}
-use Rattle.rows.proofs.Refuting.{refutes-law}
-use Rattle.sheets.specs.declared.frame.State.{State}
 use Rattle.sheets.specs.declared.reading.Lines.{Lines}
-use Rattle.sheets.specs.Reading.{Given, start, reached, LinesRead}
+use Rattle.sheets.specs.Reading.{Lent, Held, held, start, readerIn, LinesRead, faultIn, areaIn}
 
-pub too-long : (c : Catalogue) (text : List ℕ) → limits .bytes < length text → fault 1 0 ≡ sheetFault limits c text
+-- what is owed of a text: its fault, and the area after it
+pub record SheetRead (l : Lent) (needs : ℕ) (text area exit : List ℕ) (x : Rules.Fault) : Type 0 where
+  pub fault-is : x ≡ faultIn l needs text area
+  pub area-is : exit ≡ areaIn l needs text area
+
+pub too-long : (l : Lent) (needs : ℕ) (text area : List ℕ) → limits .bytes < length text → SheetRead l needs text area area (fault 1 0)
 unfolding readText
-too-long c text h = rw (lt-ltb (limits .bytes) (length text) h)
+too-long l needs text area h =
+    record { fault-is = rw (lt-ltb (limits .bytes) (length text) h); area-is = rw (lt-ltb (limits .bytes) (length text) h) }
 
 -- what the calls return after the lines: the last line's row, whether it refutes, the number for that, and the fault told
-pub record Got (area counts : List ℕ) (modules : ℕ) (l : Lines) (row : ℕ) (refuted : Bool) (last : ℕ) (told : Fault) : Type 0 where
-  pub row-is : row ≡ l .state .lines - 1
-  pub refuted-is : refuted ≡ refutesIn area row counts modules
+pub record Got (exit counts : List ℕ) (modules : ℕ) (r : Lines) (row : ℕ) (refuted : Bool) (last : ℕ) (told : Fault) : Type 0 where
+  pub row-is : row ≡ r .state .lines - 1
+  pub refuted-is : refuted ≡ refutesIn exit row counts modules
   pub last-is : last ≡ unless refuted 13
-  pub told-is : told ≡ endFault (l .number) (l .line) (eqb (l .state .stands) 2) last
+  pub told-is : told ≡ endFault (r .number) (r .line) (eqb (r .state .stands) 2) last
 
-module _ {t : Tables} {c : Catalogue} {values owners firsts counts needies targets lows highs : List ℕ} {modules needs size : ℕ}
-    (given : Given t c values owners firsts counts needies targets lows highs modules needs size)
-    {text area : List ℕ} {l : Lines} (read : LinesRead t c text area l)
-    {row : ℕ} {refuted : Bool} {last : ℕ} {told : Fault} (got : Got area counts modules l row refuted last told) where
-  abbrev u : SheetReading
-  u = reached c text
-
-  -- of a sheet that is ended the number is the reader's
-  last-law : u .stands ≡ 2 → last ≡ sheetReader c .last u
-  last-law e = got .last-is ∙ ap (λ (b : Bool). unless b 13) (got .refuted-is ∙ here)
-    where
-      at : row ≡ length (u .entries) - 1
-      at = got .row-is ∙ ap (λ (s : State). s .lines - 1) (read .state)
-
-      here : refutesIn area row counts modules ≡ refutes c (lastLine c (u .entries))
-      here =
-          let some = read .some e in
-          rw (at, given .counts-lent, given .modules-are)
-          (refutes-law t c (given .holds) (given .well-formed) (given .narrow) area (length (u .entries) - 1) (lastLine c (u .entries))
-          (read .rows (length (u .entries) - 1) (omega arith)))
-
-  pub sheet-judged : length text ≤ limits .bytes → fault (told .number) (told .line) ≡ sheetFault limits c text
-  unfolding readText endFault
-  sheet-judged h =
+module _ {l : Lent} {needs : ℕ} {text area exit : List ℕ} {r : Lines} (read : LinesRead l needs text area exit r)
+    {row : ℕ} {refuted : Bool} {last : ℕ} {told : Fault} (got : Got exit (l .counts) (l .modules) r row refuted last told)
+    (h : length text ≤ limits .bytes) where
+  fault-read : fault (told .number) (told .line) ≡ faultIn l needs text area
+  unfolding readText
+  fault-read =
       ap (λ (x : Fault). fault (x .number) (x .line)) same-end ∙
-      stopped-fault (sheetReader c) (reached c text) (l .number) (l .line) stopped ∙
+      stopped-fault (readerIn l needs) (held (r .state) exit) (r .number) (r .line) stopped ∙
       ap faultOf (sym in-time)
     where
-      in-time : readText (sheetReader c) (limits .bytes) start text ≡ readFrom (sheetReader c) 1 start (linesOf text)
+      in-time : readText (readerIn l needs) (limits .bytes) (held start area) text ≡ readFrom (readerIn l needs) 1 (held start area) (linesOf text)
       in-time = rw (le-ltb (limits .bytes) (length text) h)
 
-      stopped : Stopped (sheetReader c) start text (l .number) (l .line) (reached c text)
-      stopped = record { reach = refl; outcome = read .outcome }
+      stopped : Stopped (readerIn l needs) (held start area) text (r .number) (r .line) (held (r .state) exit)
+      stopped = record { reach = read .reach; outcome = read .outcome }
 
-      -- without an end the number is not asked for
-      by-end : (b : Bool) → eqb (reached c text .stands) 2 ≡ b →
-          endFault (l .number) (l .line) b last ≡ endFault (l .number) (l .line) b (sheetReader c .last (reached c text))
-      by-end true e = ap (endFault (l .number) (l .line) true) (last-law (eqb-true (reached c text .stands) 2 e))
-      by-end false e = refl
+      same-end : told ≡ endFault (r .number) (r .line) (eqb (r .state .stands) 2) (readerIn l needs .last (held (r .state) exit))
+      same-end = rw (got .told-is, got .last-is, got .refuted-is, got .row-is)
 
-      same-end : told ≡ endFault (l .number) (l .line) (eqb (reached c text .stands) 2) (sheetReader c .last (reached c text))
-      same-end =
-          got .told-is ∙
-          ap (λ (s : State). endFault (l .number) (l .line) (eqb (s .stands) 2) last) (read .state) ∙
-          by-end (eqb (reached c text .stands) 2) refl
+  area-read : exit ≡ areaIn l needs text area
+  area-read = rw (le-ltb (limits .bytes) (length text) h) (ap (λ (x : Held). x .area) (read .reach))
+
+  pub sheet-read : SheetRead l needs text area exit (fault (told .number) (told .line))
+  sheet-read = record { fault-is = fault-read; area-is = area-read }

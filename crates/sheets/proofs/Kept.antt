@@ -1,5 +1,5 @@
--- What is kept of a reading: row i stands for line i of the sheet, and the lines read and due are no more than there are rows (`Kept`). It holds at the
--- start (`kept-start`), and a good frame of a known kind keeps it (`kept-step`). Assumes nothing.
+-- What is kept of the rules' reading of a sheet: row i stands for line i, and the lines read and due are no more than there are rows (`Kept`). It holds at
+-- the start (`kept-start`), and a good frame of a known kind keeps it (`kept-step`). Assumes nothing.
 use mathlib.Core.Path.{_≡_, refl, sym, _∙_, subst}
 use mathlib.Core.Logic.{_≢_}
 use mathlib.Core.Bool.{Bool, true, false, _&&_, cond, false≢true}
@@ -26,18 +26,18 @@ use Rattle.rows.proofs.Standing.{others-kept}
 use Rattle.rows.proofs.NeedLines.{need-stands}
 use Rattle.rows.proofs.Resolutions.{resolved-stands}
 use Rattle.sheets.specs.declared.frame.Fields.{Fields}
-use Rattle.sheets.specs.Frame.{stateOf, fieldsAt}
-use Rattle.sheets.specs.Reading.{keptLine, workBytes, start, RowsStand}
-use Rattle.sheets.proofs.Faults.{Known, a-head, a-need, a-resolved, an-end, known-kind, fieldsIn}
+use Rattle.sheets.specs.Frame.{stateOf, fieldsAt, fieldsIn}
+use Rattle.sheets.specs.Reading.{lentBy, keptLine, workBytes}
+use Rattle.sheets.proofs.Faults.{Known, a-head, a-need, a-resolved, an-end, known-kind}
 use Rattle.sheets.proofs.Faults.{head-fields, need-fields, resolved-fields, end-fields}
 
 pub record Kept (t : Tables) (c : Catalogue) (area : List ℕ) (u : SheetReading) : Type 0 where
-  pub rows : RowsStand t c area u
+  pub rows : (i : ℕ) → i < length (u .entries) → Stands t c area i (getD (derived c (u .entries)) i noIncompatibility)
   pub few : u .due + length (u .entries) ≤ mostLines
   pub some : u .stands ≢ 0 → 0 < u .due + length (u .entries)
   pub over : u .stands ≡ 2 → u .due ≡ 0
 
-pub kept-start : (t : Tables) (c : Catalogue) (area : List ℕ) → Kept t c area start
+pub kept-start : (t : Tables) (c : Catalogue) (area : List ℕ) → Kept t c area (sheetReading 0 0 [])
 kept-start t c area =
     record {
       rows = λ i h. absurd (not-suc-le-zero h);
@@ -108,8 +108,7 @@ module _ {t : Tables} {c : Catalogue} (holds : Holds t c) (narrow : Narrow t c) 
 
     -- the area after it, by its fields
     abbrev goes : Fields → List ℕ
-    goes g =
-        keptLine area (t .values) (t .owners) (t .firsts) (t .counts) (t .needies) (t .targets) (t .lows) (t .highs) (c .modules) (stateOf u) g
+    goes g = keptLine (lentBy t (c .modules)) area (stateOf u) g
 
     head-kept : kindOf f ≡ 32 → Kept t c (goes (fieldsAt 1 0 0 f)) (withSheetFrame u f)
     unfolding keptLine withSheetFrame sheetContentFits

@@ -3,4 +3,4 @@ pub mod Faults
 pub mod Kept
 pub mod Steps
 pub mod Finished
-pub mod ReadCatalogues
+pub mod Judging

@@ -5,7 +5,7 @@ use Prim.Native.Nat.{ℕ, _+_, _-_}
 use lib.Dec.{ltb, eqb}
 use lib.ListN.{length}
 use Rattle.rules.specs.Lists.{isIn}
-use Rattle.rules.specs.Frames.{byteAt, pairAt}
+use Rattle.rules.specs.Frames.{byteAt, kindOf, pairAt, sheets, kinds, rowIn}
 use Rattle.rules.specs.Sheet.{SheetReading, mostLines}
 use Rattle.store.specs.Frame.{moduleNo, checks}
 use Rattle.sheets.specs.declared.frame.Fields.{Fields}
@@ -18,6 +18,11 @@ stateOf u = record { stands = u .stands; due = u .due; lines = length (u .entrie
 -- the fields of a frame whose first, second and third field stand at these places
 abbrev pub fieldsAt : (first second third : ℕ) → (frame : List ℕ) → Fields
 fieldsAt i j k f = record { kind = byteAt f 0; first = pairAt f i; second = pairAt f j; owner = moduleNo (byteAt f k) }
+
+-- by the row of the frame's kind in the table
+abbrev pub fieldsIn : (frame : List ℕ) → Fields
+fieldsIn f =
+    fieldsAt (rowIn kinds sheets (kindOf f) .first) (rowIn kinds sheets (kindOf f) .second) (rowIn kinds sheets (kindOf f) .third) f
 
 -- 5 and 6, kind by kind: a head, a need line and a resolved line where lines are due, an end where none is
 abbrev pub headFault : State → Fields → ℕ

@@ -1,73 +1,103 @@
--- How far the reading of a sheet comes, what its rows then stand for, and how it is judged. Assumes nothing: these are definitions.
+-- A sheet read by the code, over what it is lent, and what that means of a catalogue. Assumes nothing: these are definitions.
 use mathlib.Core.Path.{_≡_}
 use mathlib.Core.Bool.{cond}
 use mathlib.Core.List.{List, []}
-use Prim.Native.Nat.{ℕ, _*_, _≤_, _<_}
-use lib.Dec.{eqb}
-use lib.ListN.{length, getD}
-use Rattle.rules.specs.Lines.{fault, linesOf}
-use Rattle.rules.specs.Frames.{bad, readFrom}
-use Rattle.rules.specs.Catalogue.{Catalogue, WellFormed}
-use Rattle.rules.specs.Sheet.{SheetReading, sheetReading, sheetReader, derived, noIncompatibility, mostLines}
+use Prim.Native.Nat.{ℕ, _*_, _-_, _≤_}
+use lib.Dec.{ltb, eqb}
+use lib.ListN.{length}
+use Rattle.rules.specs.Lines.{Fault, fault, unless, linesOf}
+use Rattle.rules.specs.Frames.{sheets, Reader, bad, readFrom, readText, faultOf}
+use Rattle.rules.specs.Catalogue.{Catalogue, WellFormed, limits}
+use Rattle.rules.specs.Sheet.{mostLines, sheetFault}
 use Rattle.frames.specs.Reached.{reachedFrom}
 use Rattle.store.specs.Tables.{Holds}
 use Rattle.store.specs.declared.tables.Tables.{Tables}
 use Rattle.rows.specs.Needed.{needRow}
-use Rattle.rows.specs.Derived.{resolvedRow}
-use Rattle.rows.specs.Stands.{Stands, Narrow}
-use Rattle.sheets.specs.Frame.{stateOf}
+use Rattle.rows.specs.Derived.{resolvedRow, refutesIn}
+use Rattle.rows.specs.Stands.{Narrow}
+use Rattle.sheets.specs.Frame.{fieldsIn, frameFault, after}
 use Rattle.sheets.specs.declared.frame.Fields.{Fields}
 use Rattle.sheets.specs.declared.frame.State.{State}
 use Rattle.sheets.specs.declared.reading.Lines.{Lines}
 
+-- WHAT IS LENT: the lists of a catalogue's tables, and how many modules it has
+pub record Lent : Type 0 where
+  pub values : List ℕ
+  pub owners : List ℕ
+  pub firsts : List ℕ
+  pub counts : List ℕ
+  pub needies : List ℕ
+  pub targets : List ℕ
+  pub lows : List ℕ
+  pub highs : List ℕ
+  pub modules : ℕ
+
+abbrev pub lent : (values owners firsts counts needies targets lows highs : List ℕ) → (modules : ℕ) → Lent
+lent vs os fs ns ys ts ls hs m =
+    record { values = vs; owners = os; firsts = fs; counts = ns; needies = ys; targets = ts; lows = ls; highs = hs; modules = m }
+
+abbrev pub lentBy : Tables → (modules : ℕ) → Lent
+lentBy t m = lent (t .values) (t .owners) (t .firsts) (t .counts) (t .needies) (t .targets) (t .lows) (t .highs) m
+
 -- the area after a good line: a need line or a resolved line adds its row, any other frame none
-unfoldable pub keptLine : (area values owners firsts counts needies targets lows highs : List ℕ) → (modules : ℕ) → State → Fields → List ℕ
-keptLine l vs os fs ns ys ts ls hs m s f =
-    cond (eqb (f .kind) 33) (needRow l (s .lines) vs os fs ns ys ts ls hs m (f .first))
-    (cond (eqb (f .kind) 34) (resolvedRow l (s .lines) (f .first) (f .second) (f .owner .0)) l)
+unfoldable pub keptLine : Lent → (area : List ℕ) → State → Fields → List ℕ
+keptLine l a s f =
+    cond (eqb (f .kind) 33)
+    (needRow a (s .lines) (l .values) (l .owners) (l .firsts) (l .counts) (l .needies) (l .targets) (l .lows) (l .highs) (l .modules) (f .first))
+    (cond (eqb (f .kind) 34) (resolvedRow a (s .lines) (f .first) (f .second) (f .owner .0)) a)
+
+-- THE READING as the code keeps it: its state, and the area with a row for each line so far
+pub record Held : Type 0 where
+  pub state : State
+  pub area : List ℕ
+
+abbrev pub held : State → (area : List ℕ) → Held
+held s a = record { state = s; area = a }
+
+abbrev pub start : State
+start = record { stands = 0; due = 0; lines = 0 }
+
+-- the reader over what is lent, of a catalogue with so many needs: 13 where the last line's row does not refute
+abbrev pub readerIn : Lent → (needs : ℕ) → Reader Held
+readerIn l n = record {
+  text = sheets;
+  fault = λ h f. frameFault (h .state) (l .modules) n (fieldsIn f);
+  after = λ h f. held (after (h .state) (fieldsIn f)) (keptLine l (h .area) (h .state) (fieldsIn f));
+  isEnded = λ h. eqb (h .state .stands) 2;
+  last = λ h. unless (refutesIn (h .area) (h .state .lines - 1) (l .counts) (l .modules)) 13;
+}
+
+-- the reading of a sheet's text up to its first faulty line
+abbrev pub reachedIn : Lent → (needs : ℕ) → (text area : List ℕ) → Held
+reachedIn l n t a = reachedFrom (readerIn l n) (held start a) (linesOf t)
+
+-- what is owed of the lines: the state and the area there, and the fault found
+pub record LinesRead (l : Lent) (needs : ℕ) (text area exit : List ℕ) (r : Lines) : Type 0 where
+  pub reach : held (r .state) exit ≡ reachedIn l needs text area
+  pub outcome :
+      readFrom (readerIn l needs) 1 (held start area) (linesOf text) ≡
+      cond (eqb (r .number) 0) (readFrom (readerIn l needs) (r .line) (held (r .state) exit) []) (bad (fault (r .number) (r .line)))
+
+-- THE FAULT of a sheet's text over what is lent, and the area after it; a text that is too long is not read
+abbrev pub faultIn : Lent → (needs : ℕ) → (text area : List ℕ) → Fault
+faultIn l n t a = faultOf (readText (readerIn l n) (limits .bytes) (held start a) t)
+
+abbrev pub areaIn : Lent → (needs : ℕ) → (text area : List ℕ) → List ℕ
+areaIn l n t a = cond (ltb (limits .bytes) (length t)) a (reachedIn l n t a .area)
 
 -- the bytes of a work area with a row for each line that a sheet may have
 abbrev pub workBytes : ℕ
 workBytes = 132 * mostLines
 
--- what a sheet is judged over: a catalogue that the tables hold, whose lists are lent, with so many modules and needs and so large a work area
-pub record Given (t : Tables) (c : Catalogue) (values owners firsts counts needies targets lows highs : List ℕ) (modules needs size : ℕ) : Type 0 where
-  pub values-lent : values ≡ t .values
-  pub owners-lent : owners ≡ t .owners
-  pub firsts-lent : firsts ≡ t .firsts
-  pub counts-lent : counts ≡ t .counts
-  pub needies-lent : needies ≡ t .needies
-  pub targets-lent : targets ≡ t .targets
-  pub lows-lent : lows ≡ t .lows
-  pub highs-lent : highs ≡ t .highs
-  pub modules-are : modules ≡ c .modules
+-- A CATALOGUE that the tables hold: their lists are lent, it has so many needs, its incompatibilities fit into rows, and the area has so many bytes
+pub record Given (t : Tables) (c : Catalogue) (l : Lent) (needs size : ℕ) : Type 0 where
+  pub lent-is : l ≡ lentBy t (c .modules)
   pub needs-are : needs ≡ length (c .needs)
   pub room : workBytes ≤ size
   pub holds : Holds t c
   pub well-formed : WellFormed c
   pub narrow : Narrow t c
 
--- what holds over every such catalogue
-abbrev pub OverGiven : (values owners firsts counts needies targets lows highs : List ℕ) → (modules needs size : ℕ) →
-    (Tables → Catalogue → Type 0) → Type 0
-OverGiven vs os fs ns ys ts ls hs m n k P = (t : Tables) (c : Catalogue) → Given t c vs os fs ns ys ts ls hs m n k → P t c
-
-abbrev pub start : SheetReading
-start = sheetReading 0 0 []
-
--- the reading of a sheet up to its first faulty line
-abbrev pub reached : Catalogue → (text : List ℕ) → SheetReading
-reached c t = reachedFrom (sheetReader c) start (linesOf t)
-
--- row i stands for line i of those read so far
-abbrev pub RowsStand : Tables → Catalogue → (area : List ℕ) → SheetReading → Type 0
-RowsStand t c l u = (i : ℕ) → i < length (u .entries) → Stands t c l i (getD (derived c (u .entries)) i noIncompatibility)
-
--- what is owed of the lines: the fault found, the state and the rows there; a sheet that is ended has a line
-pub record LinesRead (t : Tables) (c : Catalogue) (text area : List ℕ) (r : Lines) : Type 0 where
-  pub state : r .state ≡ stateOf (reached c text)
-  pub rows : RowsStand t c area (reached c text)
-  pub some : reached c text .stands ≡ 2 → 0 < length (reached c text .entries)
-  pub outcome :
-      readFrom (sheetReader c) 1 start (linesOf text) ≡
-      cond (eqb (r .number) 0) (readFrom (sheetReader c) (r .line) (reached c text) []) (bad (fault (r .number) (r .line)))
+-- over every such catalogue the fault is the rules'
+abbrev pub JudgedAsRules : Lent → (needs size : ℕ) → (text : List ℕ) → Fault → Type 0
+JudgedAsRules l n k t x = (u : Tables) (c : Catalogue) → Given u c l n k → x ≡ sheetFault limits c t

@@ -4,8 +4,7 @@ ghost use Prim.Native.Nat.{_≤_};
 ghost use lib.ListN.{length};
 ghost use Rattle.rules.specs.Lines.{fault};
 ghost use Rattle.rules.specs.Catalogue.{limits};
-ghost use Rattle.rules.specs.Sheet.{sheetFault};
-ghost use Rattle.sheets.specs.Reading.{keptLine, OverGiven, LinesRead};
+ghost use Rattle.sheets.specs.Reading.{lent, keptLine, LinesRead, faultIn, areaIn, JudgedAsRules};
 use crate::frame;
 use crate::frame::Fields;
 use crate::frame::NEED_LINE;
@@ -32,7 +31,7 @@ pub struct Lines {
 }
 
 // Writes the row of a good line that has one. Every byte of the area outside the row stays.
-pub fn keep_line<'a>(
+fn keep_line<'a>(
     work: &'a mut [u8],
     values: &'a [u32],
     owners: &'a [u16],
@@ -46,8 +45,9 @@ pub fn keep_line<'a>(
     s: State,
     f: Fields,
 )
-    ensures { λ r. ⌜ now (work .exit) ≡ keptLine (now (work .entry)) (now (values .entry)) (now (owners .entry)) (now (firsts .entry))
-        (now (counts .entry)) (now (needies .entry)) (now (targets .entry)) (now (lows .entry)) (now (highs .entry)) modules s f ⌝ }
+    ensures { λ r. ⌜ now (work .exit) ≡ keptLine (lent (now (values .entry)) (now (owners .entry)) (now (firsts .entry)) (now (counts .entry))
+        (now (needies .entry)) (now (targets .entry)) (now (lows .entry)) (now (highs .entry)) modules)
+        (now (work .entry)) s f ⌝ }
 {
     if f.kind == NEED_LINE {
         need_row(
@@ -73,7 +73,7 @@ pub fn keep_line<'a>(
 }
 
 // Lines of digits, a frame a line. The digit loop is left at the first character that can't stand, and the reading at the first faulty line.
-pub fn read_lines<'a>(
+fn read_lines<'a>(
     text: &'a [u8],
     values: &'a [u32],
     owners: &'a [u16],
@@ -88,9 +88,9 @@ pub fn read_lines<'a>(
     work: &'a mut [u8],
 ) -> Lines
     requires { ⌜ length (now text) ≤ limits .bytes ⌝ }
-    ensures { λ r. ⌜ OverGiven (now (values .entry)) (now (owners .entry)) (now (firsts .entry)) (now (counts .entry)) (now (needies .entry))
-        (now (targets .entry)) (now (lows .entry)) (now (highs .entry)) modules needs (length (now (work .entry)))
-        (λ t c. LinesRead t c (now (text .entry)) (now (work .exit)) r) ⌝ }
+    ensures { λ r. ⌜ LinesRead (lent (now (values .entry)) (now (owners .entry)) (now (firsts .entry)) (now (counts .entry))
+        (now (needies .entry)) (now (targets .entry)) (now (lows .entry)) (now (highs .entry)) modules)
+        needs (now (text .entry)) (now (work .entry)) (now (work .exit)) r ⌝ }
 {
     let mut s = State {
         stands: 0,
@@ -168,9 +168,15 @@ pub fn read_sheet<'a>(
     needs: u16,
     work: &'a mut [u8],
 ) -> Fault
-    ensures { λ r. ⌜ OverGiven (now (values .entry)) (now (owners .entry)) (now (firsts .entry)) (now (counts .entry)) (now (needies .entry))
-        (now (targets .entry)) (now (lows .entry)) (now (highs .entry)) modules needs (length (now (work .entry)))
-        (λ t c. fault (r .number) (r .line) ≡ sheetFault limits c (now (text .entry))) ⌝ }
+    ensures told { λ r. ⌜ fault (r .number) (r .line) ≡ faultIn (lent (now (values .entry)) (now (owners .entry)) (now (firsts .entry)) (now (counts .entry))
+        (now (needies .entry)) (now (targets .entry)) (now (lows .entry)) (now (highs .entry)) modules)
+        needs (now (text .entry)) (now (work .entry)) ⌝ }
+    ensures area { λ r. ⌜ now (work .exit) ≡ areaIn (lent (now (values .entry)) (now (owners .entry)) (now (firsts .entry)) (now (counts .entry))
+        (now (needies .entry)) (now (targets .entry)) (now (lows .entry)) (now (highs .entry)) modules)
+        needs (now (text .entry)) (now (work .entry)) ⌝ }
+    ensures judged { λ r. ⌜ JudgedAsRules (lent (now (values .entry)) (now (owners .entry)) (now (firsts .entry)) (now (counts .entry))
+        (now (needies .entry)) (now (targets .entry)) (now (lows .entry)) (now (highs .entry)) modules)
+        needs (length (now (work .entry))) (now (text .entry)) (fault (r .number) (r .line)) ⌝ }
 {
     if BYTES < text.len() {
         return Fault { number: 1, line: 0 };

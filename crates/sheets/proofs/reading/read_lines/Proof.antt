@@ -12,6 +12,7 @@ use Rattle.frames.specs.Digits.{pairAt}
 use Rattle.frames.specs.declared.digits.Pair.the-variants.{Byte, LineFeed}
 use Rattle.frames.proofs.Lines.{byte-stands}
 use Rattle.frames.proofs.InLine.{InLine, line-start, line-byte, line-feed, line-size}
+use Rattle.sheets.specs.Reading.{Lent, lent}
 use Rattle.sheets.proofs.Steps.{AtLine, Got, Owed, at-start, end-stops, wrong-stops, line-stops, line-kept}
 use Rattle.sheets.proofs.reading.read_lines.Statement.{statement}
 use Rattle.sheets.proofs.reading.read_lines.Tie as tie
@@ -27,7 +28,7 @@ abbrev μ-digits : tie.MeasureT-digits
 
 abbrev Inv-lines : tie.InvT-lines
 Inv-lines text values owners firsts counts needies targets lows highs modules needs work₀ s₀ number₀ line₀ at₀ work s number line at =
-    (number ≡ 0) × AtLine values owners firsts counts needies targets lows highs modules needs work₀ text work at line s
+    (number ≡ 0) × AtLine (lent values owners firsts counts needies targets lows highs modules) needs work₀ text work at line s
 
 abbrev μ-lines : tie.MeasureT-lines
 μ-lines text values owners firsts counts needies targets lows highs modules needs work₀ s₀ number₀ line₀ at₀ work s number line at = length text - at
@@ -49,10 +50,12 @@ module _ (c : AtLines) where
   text-fits : length text ≤ 32768
   text-fits = begun .pre
 
-  at-line :
-      AtLine (begun .args .values .now) (begun .args .owners .now) (begun .args .firsts .now) (begun .args .counts .now) (begun .args .needies .now)
-      (begun .args .targets .now) (begun .args .lows .now) (begun .args .highs .now) (begun .args .modules) (begun .args .needs)
-      (begun .args .work .now) text (c .lines .work) (c .lines .at) (c .lines .line) (c .lines .s)
+  abbrev lends : Lent
+  lends =
+      lent (begun .args .values .now) (begun .args .owners .now) (begun .args .firsts .now) (begun .args .counts .now) (begun .args .needies .now)
+      (begun .args .targets .now) (begun .args .lows .now) (begun .args .highs .now) (begun .args .modules)
+
+  at-line : AtLine lends (begun .args .needs) (begun .args .work .now) text (c .lines .work) (c .lines .at) (c .lines .line) (c .lines .s)
   at-line = c .lines .inv .1
 
 -- INSIDE A LINE
@@ -147,7 +150,7 @@ judged-of-state c = judged-of-kept (c .before)
 
 -- THE NEEDS of the loop over lines, and of the loop over digits
 lines-holds : tie.Need-lines-holds Inv-digits μ-digits Inv-lines μ-lines
-lines-holds c = (refl, at-start _)
+lines-holds c = (refl, at-start _ _ _ _)
 
 digits-holds : tie.Need-digits-holds Inv-digits μ-digits Inv-lines μ-lines
 digits-holds c = (c .before .lines .inv .0, line-start (text (c .before)) (c .before .lines .at) (c .lines-test .taken))
@@ -236,7 +239,7 @@ lines-again c =
     let good = c .before .before .before .before .before .if1 .left in
     let row-kept = c .before .before .before .keep-line in (
       good,
-      line-kept (at-line l) (in-line d) (feed-there (feed-of-judged judged)) (got judged) good {after-it = row-kept .last .0}
+      line-kept (at-line l) (in-line d) (feed-there (feed-of-judged judged)) (got judged) good {exit = row-kept .last .0}
           (c .after .ensures) (row-kept .ensures) (row-kept .kept .0),
     )
 
@@ -247,7 +250,7 @@ same-length c = search needs
 returns : tie.Need-returns Inv-digits μ-digits Inv-lines μ-lines
 returns c =
     let l = c .before in
-    subst (λ (n : ℕ). Owed (at-line l) n) (sym (l .lines .inv .0)) (end-stops (at-line l) (c .lines-test .left))
+    subst (Owed (at-line l)) (sym (l .lines .inv .0)) (end-stops (at-line l) (c .lines-test .left))
 
 same-length-2 : tie.Need-same-length-2 Inv-digits μ-digits Inv-lines μ-lines
 same-length-2 c = search needs
