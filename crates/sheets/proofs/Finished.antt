@@ -1,5 +1,5 @@
--- A sheet's text read whole: a text that is too long is not read (`too-long`); of any other, the fault told after the lines and the area are those of the
--- reader over what is lent (`sheet-read`). Assumes nothing.
+-- A sheet's text judged: one that is too long is not read (`too-long`); of any other, the fault told after the lines and the area are those of the reader
+-- over what is lent (`sheet-judged`). Assumes nothing.
 use mathlib.Core.Path.{_≡_, sym, _∙_, ap}
 use mathlib.Core.Bool.{Bool}
 use mathlib.Core.List.{List}
@@ -16,17 +16,18 @@ use Rattle.frames.specs.declared.faults.Fault.{Fault}
 use Rattle.frames.proofs.Steps.{Stopped, stopped-fault}
 use Rattle.rows.specs.Derived.{refutesIn}
 use Rattle.sheets.specs.declared.reading.Lines.{Lines}
-use Rattle.sheets.specs.Reading.{Lent, Held, held, start, readerIn, LinesRead, faultIn, areaIn}
+use Rattle.sheets.specs.Reading.{Lent, Held, held, start, readerIn, LinesRead, faultIn, areaIn, SheetJudged}
+use Rattle.sheets.proofs.Judging.{judged-as-rules}
 
--- what is owed of a text: its fault, and the area after it
-pub record SheetRead (l : Lent) (needs : ℕ) (text area exit : List ℕ) (x : Rules.Fault) : Type 0 where
-  pub fault-is : x ≡ faultIn l needs text area
-  pub area-is : exit ≡ areaIn l needs text area
+-- the two equations are all that is owed: the law of the rules follows from the first
+judged : (l : Lent) (needs : ℕ) (text area : List ℕ) {exit : List ℕ} {x : Rules.Fault} → x ≡ faultIn l needs text area → exit ≡ areaIn l needs text area →
+    SheetJudged l needs text area exit x
+judged l needs text area p q = record { fault-is = p; area-is = q; as-rules = λ t c g. p ∙ judged-as-rules l needs text area t c g }
 
-pub too-long : (l : Lent) (needs : ℕ) (text area : List ℕ) → limits .bytes < length text → SheetRead l needs text area area (fault 1 0)
+pub too-long : (l : Lent) (needs : ℕ) (text area : List ℕ) → limits .bytes < length text → SheetJudged l needs text area area (fault 1 0)
 unfolding readText
 too-long l needs text area h =
-    record { fault-is = rw (lt-ltb (limits .bytes) (length text) h); area-is = rw (lt-ltb (limits .bytes) (length text) h) }
+    judged l needs text area (rw (lt-ltb (limits .bytes) (length text) h)) (rw (lt-ltb (limits .bytes) (length text) h))
 
 -- what the calls return after the lines: the last line's row, whether it refutes, the number for that, and the fault told
 pub record Got (exit counts : List ℕ) (modules : ℕ) (r : Lines) (row : ℕ) (refuted : Bool) (last : ℕ) (told : Fault) : Type 0 where
@@ -57,5 +58,5 @@ module _ {l : Lent} {needs : ℕ} {text area exit : List ℕ} {r : Lines} (read 
   area-read : exit ≡ areaIn l needs text area
   area-read = rw (le-ltb (limits .bytes) (length text) h) (ap (λ (x : Held). x .area) (read .reach))
 
-  pub sheet-read : SheetRead l needs text area exit (fault (told .number) (told .line))
-  sheet-read = record { fault-is = fault-read; area-is = area-read }
+  pub sheet-judged : SheetJudged l needs text area exit (fault (told .number) (told .line))
+  sheet-judged = judged l needs text area fault-read area-read

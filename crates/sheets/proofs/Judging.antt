@@ -12,7 +12,7 @@ use borrow.Author.Tests.{eqb-true}
 use Rattle.rules.specs.Lines.{fine, unless}
 use Rattle.rules.specs.Frames.{kindOf, sheets, digitsFor}
 use Rattle.rules.specs.Catalogue.{Catalogue, WellFormed, Carried, CarriedLimits, limits, textFault, catalogueOf}
-use Rattle.rules.specs.Sheet.{SheetReading, sheetReading, sheetReader, lastLine}
+use Rattle.rules.specs.Sheet.{SheetReading, sheetReading, sheetReader, lastLine, sheetFault}
 use Rattle.rules.proofs.Readers.{same-told}
 use Rattle.rules.proofs.Reading.{reads-well-formed, reads-few}
 use Rattle.store.specs.Tables.{Holds}
@@ -23,7 +23,7 @@ use Rattle.rows.proofs.Refuting.{refutes-law}
 use Rattle.sheets.specs.declared.frame.Fields.{Fields}
 use Rattle.sheets.specs.declared.frame.State.{State}
 use Rattle.sheets.specs.Frame.{stateOf, fieldsIn, after}
-use Rattle.sheets.specs.Reading.{Lent, lentBy, keptLine, Held, held, start, readerIn, faultIn, workBytes, Given, JudgedAsRules}
+use Rattle.sheets.specs.Reading.{Lent, lentBy, keptLine, Held, held, start, readerIn, faultIn, workBytes, Given}
 use Rattle.sheets.proofs.Faults.{fault-law, after-law}
 use Rattle.sheets.proofs.Kept.{Kept, kept-start, kept-step}
 
@@ -74,7 +74,8 @@ module _ {t : Tables} {c : Catalogue} {l : Lent} {needs size : ℕ} (given : Giv
       two-not-zero z = omega arith
 
 -- so over every catalogue given the fault is the rules'
-pub judged-as-rules : (l : Lent) (needs : ℕ) (text area : List ℕ) → JudgedAsRules l needs (length area) text (faultIn l needs text area)
+pub judged-as-rules : (l : Lent) (needs : ℕ) (text area : List ℕ) (t : Tables) (c : Catalogue) → Given t c l needs (length area) →
+    faultIn l needs text area ≡ sheetFault limits c text
 judged-as-rules l needs text area t c g =
     same-told (readerIn l needs) (sheetReader c) refl (Together t c) (same-fault g) (stay g) (λ h u p. ap (λ (s : State). eqb (s .stands) 2) (p .told))
     (same-last g) (limits .bytes) (held start area) (sheetReading 0 0 [])

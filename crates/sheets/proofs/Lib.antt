@@ -2,5 +2,5 @@
 pub mod Faults
 pub mod Kept
 pub mod Steps
-pub mod Finished
 pub mod Judging
+pub mod Finished

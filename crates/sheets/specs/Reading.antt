@@ -98,6 +98,8 @@ pub record Given (t : Tables) (c : Catalogue) (l : Lent) (needs size : ℕ) : Ty
   pub well-formed : WellFormed c
   pub narrow : Narrow t c
 
--- over every such catalogue the fault is the rules'
-abbrev pub JudgedAsRules : Lent → (needs size : ℕ) → (text : List ℕ) → Fault → Type 0
-JudgedAsRules l n k t x = (u : Tables) (c : Catalogue) → Given u c l n k → x ≡ sheetFault limits c t
+-- WHAT IS OWED of a sheet: its fault and the area after it; and over every catalogue given the fault is the rules'
+pub record SheetJudged (l : Lent) (needs : ℕ) (text area exit : List ℕ) (x : Fault) : Type 0 where
+  pub fault-is : x ≡ faultIn l needs text area
+  pub area-is : exit ≡ areaIn l needs text area
+  pub as-rules : (t : Tables) (c : Catalogue) → Given t c l needs (length area) → x ≡ sheetFault limits c text

@@ -4,7 +4,7 @@ ghost use Prim.Native.Nat.{_≤_};
 ghost use lib.ListN.{length};
 ghost use Rattle.rules.specs.Lines.{fault};
 ghost use Rattle.rules.specs.Catalogue.{limits};
-ghost use Rattle.sheets.specs.Reading.{lent, keptLine, LinesRead, faultIn, areaIn, JudgedAsRules};
+ghost use Rattle.sheets.specs.Reading.{lent, keptLine, LinesRead, SheetJudged};
 use crate::frame;
 use crate::frame::Fields;
 use crate::frame::NEED_LINE;
@@ -168,15 +168,9 @@ pub fn read_sheet<'a>(
     needs: u16,
     work: &'a mut [u8],
 ) -> Fault
-    ensures told { λ r. ⌜ fault (r .number) (r .line) ≡ faultIn (lent (now (values .entry)) (now (owners .entry)) (now (firsts .entry)) (now (counts .entry))
+    ensures { λ r. ⌜ SheetJudged (lent (now (values .entry)) (now (owners .entry)) (now (firsts .entry)) (now (counts .entry))
         (now (needies .entry)) (now (targets .entry)) (now (lows .entry)) (now (highs .entry)) modules)
-        needs (now (text .entry)) (now (work .entry)) ⌝ }
-    ensures area { λ r. ⌜ now (work .exit) ≡ areaIn (lent (now (values .entry)) (now (owners .entry)) (now (firsts .entry)) (now (counts .entry))
-        (now (needies .entry)) (now (targets .entry)) (now (lows .entry)) (now (highs .entry)) modules)
-        needs (now (text .entry)) (now (work .entry)) ⌝ }
-    ensures judged { λ r. ⌜ JudgedAsRules (lent (now (values .entry)) (now (owners .entry)) (now (firsts .entry)) (now (counts .entry))
-        (now (needies .entry)) (now (targets .entry)) (now (lows .entry)) (now (highs .entry)) modules)
-        needs (length (now (work .entry))) (now (text .entry)) (fault (r .number) (r .line)) ⌝ }
+        needs (now (text .entry)) (now (work .entry)) (now (work .exit)) (fault (r .number) (r .line)) ⌝ }
 {
     if BYTES < text.len() {
         return Fault { number: 1, line: 0 };
