@@ -36,7 +36,8 @@ find-requires c κs =
 
 write-selection-requires : tie.Need-write-selection-requires
 write-selection-requires c κs =
-    let at-find = c .before .before .before .before .before .before .before .before .before .before .before in
+    let at-before = c .before .before .before .before .before .before .before .before .before .before in
+    let at-find = at-before .before in
     let at-tables = at-find .before .before .before .before .before .before .before .before .before .before .before .before .before .before .before .before .before .before in
     let at-test = at-tables .before .before .before in
     let at-read = at-test .before .before in
@@ -78,7 +79,8 @@ same-length-2 c = search needs
 
 returns-2 : tie.Need-returns-2
 returns-2 c =
-    let at-writing = c .before .before .before in
+    let at-before = c .before .before in
+    let at-writing = at-before .before in
     let at-found = at-writing .before .before .before .before .before .before .before .before .before in
     let at-find = at-found .before .before .before in
     let at-tables = at-find .before .before .before .before .before .before .before .before .before .before .before .before .before .before .before .before .before .before in
@@ -178,7 +180,8 @@ same-length-5 c = search needs
 
 returns-4 : tie.Need-returns-4
 returns-4 c =
-    let at-writing = c .before .before .before in
+    let at-before = c .before .before in
+    let at-writing = at-before .before in
     let at-over = at-writing .before .before .before in
     let at-found = at-over .before .before in
     let at-find = at-found .before .before .before in
@@ -194,7 +197,8 @@ returns-4 c =
     let fits = fitting (given .selection .now) (given .sheet .now) work a (at-entry .pre) in
     let well = read-well text l (at-read .read .ensures) (at-test .if1 .left) in
     let none-best = found-none well a work (at-find .find .ensures .0) (at-found .if2 .left) in
-    let left = sheet-left well a work (at-find .find .ensures .0) none-best (fits .few-lines) (fits .work-room) (at-find .find .ensures .1) (at-over .if3 .left) in
+    let left = sheet-left well a work (at-find .find .ensures .0) none-best (fits .few-lines) (fits .work-room) (at-find .find .ensures .1)
+    (at-over .if3 .left) in
     outcome-read text (given .selection .now) (given .sheet .now) a (read-fine text l (at-read .read .ensures) (at-test .if1 .left))
     (sheeted well (given .selection .now) (given .sheet .now) a none-best (fits .few-lines) left (fits .sheet-room) (at-writing .write-sheet .ensures .0)
     (at-writing .write-sheet .ensures .1) (c .answer4 .ensures))
