@@ -1,0 +1,3 @@
+-- Lemmas that the proofs of this crate share.
+pub mod Turns
+pub mod Sheets

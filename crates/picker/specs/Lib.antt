@@ -1,0 +1,3 @@
+-- What a call of pick owes.
+pub mod Entry
+pub mod Written
