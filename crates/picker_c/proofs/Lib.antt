@@ -1,0 +1,1 @@
+-- Lemmas that the proofs of this crate share: none so far.
