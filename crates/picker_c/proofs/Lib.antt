@@ -1,1 +1,0 @@
--- Lemmas that the proofs of this crate share: none so far.
