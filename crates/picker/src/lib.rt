@@ -6,6 +6,7 @@ ghost use Rattle.picker.specs.Entry.{areasFit, picked, ReadOwes, PickOwe
 use catalogue::reading;
 use search::find;
 use selection::text::write_selection;
+
 pub mod area;
 pub mod sheet;
 
@@ -63,8 +64,17 @@ fn pick_in(
     let s = read.state;
     let t = read.tables;
     let r = find::find(
-        &t.values, &t.starts, &t.marks, &t.firsts, &t.counts, &t.targets, &t.lows, &t.highs,
-        work, s.modules, allowance,
+        &t.values,
+        &t.starts,
+        &t.marks,
+        &t.firsts,
+        &t.counts,
+        &t.targets,
+        &t.lows,
+        &t.highs,
+        work,
+        s.modules,
+        allowance,
     );
     if r.found {
         let choices = r.choices;

@@ -1,7 +1,7 @@
 -- The search as place and trial make it: the record of choices and the sheet go into each move and come back. Assumes nothing: these are definitions.
 use mathlib.Core.Bool.{Bool, true, false, cond}
 use mathlib.Core.List.{List, [], _∷_}
-use Prim.Native.Nat.{ℕ, zero, suc, _+_, _-_, _≤_}
+use Prim.Native.Nat.{ℕ, zero, suc, _+_, _-_, _≤_, _<_}
 use lib.Dec.{eqb}
 use lib.ListN.{getD, set, replicate}
 use Rattle.rules.specs.Sheet.{cites, resolves}
@@ -27,9 +27,9 @@ movesIn vs ss ms fs cs ts ls hs n =
       tries = λ m. falling (getD fs m 0) (getD cs m 0);
     }
 
--- every place of a module's versions, and the one past them, is a number of 16 bits
+-- every place of a module's versions, where it has any, and the one past them, is a number of 16 bits
 abbrev pub PlacesFit : (firsts counts : List ℕ) → Type 0
-PlacesFit fs cs = (m : ℕ) → getD fs m 0 + getD cs m 0 ≤ 65535
+PlacesFit fs cs = (m : ℕ) → 0 < getD cs m 0 → getD fs m 0 + getD cs m 0 ≤ 65535
 
 -- how a search ends: whether it found a selection, the record of choices, and the sheet
 pub record Walked : Type 0 where

@@ -39,7 +39,7 @@ module _ (vs ch : List ℕ) where
       rw (length-append (lineIn vs ch m) (flatMap (lineIn vs ch) ms)) (omega arith)
 
   module _ (n : ℕ) where
-    text-length : length (textIn vs ch n) ≡ 12 + 13 * length (settledIn ch n)
+    pub text-length : length (textIn vs ch n) ≡ 12 + 13 * length (settledIn ch n)
     unfolding textIn
     text-length =
         let head : length (headOf (length (settledIn ch n))) ≡ 7 = frame-length _ in

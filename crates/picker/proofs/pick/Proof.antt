@@ -1,43 +1,43 @@
+-- `picker::pick` meets its contract: areas that don't fit change nothing, and after any other pick the work area is cleared.
 use borrow.Author.Needs.{needs}
+use borrow.Author.Tests.{not-true, not-false}
+use Rattle.picker.proofs.Answers.{unfit-owed, fit-owed}
 use Rattle.picker.proofs.pick.Statement.{statement}
 use Rattle.picker.proofs.pick.Tie as tie
-use Rattle.picker.proofs.pick.Reads as reads
-use Rattle.picker.proofs.pick.Lts as lts
-use Rattle.picker.proofs.answer.Reads as answer-reads
-use Rattle.picker.proofs.area.clear.Reads as clear-reads
-use Rattle.picker.proofs.pick_in.Reads as pick-in-reads
 
--- src/lib.rt:98:9
 answer-requires : tie.Need-answer-requires
 answer-requires c κs = search needs
 
--- src/lib.rt:98:9
 returns : tie.Need-returns
-returns c = search needs
+returns c =
+    let at-test = c .before in
+    let given = at-test .before .before .before .before .before .args in
+    unfit-owed (given .text .now) (given .selection .now) (given .sheet .now) (given .work .now) (given .allowance) (not-true _ (at-test .if1 .taken)) (c .answer .ensures)
 
--- src/lib.rt:100:9
 pick-in-requires : tie.Need-pick-in-requires
-pick-in-requires c κs = search needs
+pick-in-requires c κs =
+    not-false _ (c .before .before .before .if1 .left)
 
--- src/lib.rt:101:5
 clear-requires : tie.Need-clear-requires
 clear-requires c κs = search needs
 
--- src/lib.rt:83:1
 same-length : tie.Need-same-length
 same-length c = search needs
 
--- src/lib.rt:83:1
 same-length-2 : tie.Need-same-length-2
 same-length-2 c = search needs
 
--- src/lib.rt:83:1
 same-length-3 : tie.Need-same-length-3
 same-length-3 c = search needs
 
--- src/lib.rt:83:1
 returns-2 : tie.Need-returns-2
-returns-2 c = search needs
+returns-2 c =
+    let at-clear = c .before .before in
+    let at-picked = at-clear .before .before .before .before .before .before .before .before in
+    let at-test = at-picked .before .before .before .before in
+    let given = at-test .before .before .before .before .before .args in
+    fit-owed (given .text .now) (given .selection .now) (given .sheet .now) (given .work .now) (at-picked .pick-in .last .1 .1 .1 .0)
+    (given .allowance) (not-false _ (at-test .if1 .left)) (at-picked .pick-in .ensures) (at-picked .pick-in .kept .1 .1 .1 .0) (at-clear .clear .ensures)
 
 pub pick-spec : {M : Type 1} → statement M
 pick-spec =

@@ -141,7 +141,8 @@ place-add-t32 t c =
     let at-entry = at-next-module .before .before .before .before .before .before .before .before .before .before .before in
     let is-first = ap (λ (s : Span). s .first) (at-versions-of .versions-of .ensures) in
     let is-count = ap (λ (s : Span). s .count) (at-versions-of .versions-of .ensures) in
-    let fits = at-entry .pre .1 (at-next-module .next-module .result .next .owner .0) in
+    let fits = at-entry .pre .1 (at-next-module .next-module .result .next .owner .0)
+    (omega (arith, is-count, at-turn .loop .inv .few, at-test .loop-test .taken)) in
     omega (arith, is-first, is-count, fits, at-turn .loop .inv .few, at-test .loop-test .taken)
 
 place-trial-requires : (t : ℕ) → place-lts.Need-trial-requires (place-calls t) (place-at t) place.Post place-Inv-loop place-μ-loop
@@ -154,7 +155,8 @@ place-trial-requires t c κs =
     let at-entry = at-if1 .before .before .before .before .before .before .before .before .before .before in
     let is-first = ap (λ (s : Span). s .first) (at-versions-of .versions-of .ensures) in
     let is-count = ap (λ (s : Span). s .count) (at-versions-of .versions-of .ensures) in
-    let fits = at-entry .pre .1 (at-next-module .next-module .result .next .owner .0) in (
+    let fits = at-entry .pre .1 (at-next-module .next-module .result .next .owner .0)
+    (omega (arith, is-count, at-turn .loop .inv .few, at-test .loop-test .taken)) in (
       omega (arith, at-entry .pre .0, at-if1 .if1 .left),
       (at-entry .pre .1, omega (arith, is-first, is-count, fits, at-turn .loop .inv .few, at-test .loop-test .taken)),
     )
