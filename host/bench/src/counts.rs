@@ -16,6 +16,10 @@ const JOBS: [(&str, Job); 4] = [
     ("second_pick", second_pick),
 ];
 
+/// Keeps the C library from clearing and copying by instructions that callgrind counts once for each byte.
+const NO_STRING_INSTRUCTIONS: &str =
+    "glibc.cpu.x86_rep_stosb_threshold=100000000:glibc.cpu.x86_rep_movsb_threshold=100000000";
+
 /// Instructions that a job takes for a set's first texts, if valgrind is there.
 pub fn instructions(job: &str, set: &Set) -> Option<u64> {
     let output = Command::new("valgrind")
@@ -23,6 +27,7 @@ pub fn instructions(job: &str, set: &Set) -> Option<u64> {
         .arg(format!("--toggle-collect=bench::jobs::{job}"))
         .arg(std::env::current_exe().ok()?)
         .args(["count", job, set.name])
+        .env("GLIBC_TUNABLES", NO_STRING_INSTRUCTIONS)
         .output()
         .ok()?;
     let said = String::from_utf8_lossy(&output.stderr);

@@ -71,7 +71,8 @@ fn counts_table(page: &mut String) {
         page,
         "\n## Instructions
 
-Counted by valgrind's callgrind for the first {} texts of each set, in thousands for one text.
+Counted by valgrind's callgrind for the first {} texts of each set, in thousands for one text. The C library is told to clear and copy without the
+string instructions, which callgrind counts once for each byte.
 
 | set | read: proved | second | ratio | pick: proved | second | ratio |\n|---|---|---|---|---|---|---|\n",
         counts::TEXTS
@@ -108,15 +109,19 @@ fn row(page: &mut String, name: &str, [a, b, c, d]: [f64; 4], places: usize) {
 }
 
 fn stack_lines(page: &mut String) {
-    let least = stack::least().map_or("more than 1 MiB".to_string(), |bytes| {
-        format!("{bytes} bytes")
-    });
+    let least =
+        |kind| stack::least(kind).map_or("more than 1 MiB".to_string(), |bytes| bytes.to_string());
     let _ = write!(
         page,
         "\n## Stack
 
-The smallest thread stack, in pages of 4,096 bytes, on which every pick ends: {least}. Picked for are two catalogues whose search goes through 32
-modules, one with a valid selection and one without, two of each set above, and a text that is too long. A run on a smaller stack is ended by a
-signal; the figure holds the thread's own frames and storage too, so it is an upper bound.\n"
+The smallest thread stack, in bytes and by pages of 4,096, on which the proved picks end; a run on a smaller one is ended by a signal. The figures
+hold the thread's own frames too. The deepest searches go through 32 modules, each of which needs the next.
+
+| picks | stack |\n|---|---|
+| without a search: a root alone, refused texts, a text that is too long | {} |
+| with the deepest searches, with and without a valid selection, and with two catalogues of each set | {} |\n",
+        least("flat"),
+        least("deep")
     );
 }
