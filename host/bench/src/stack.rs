@@ -1,0 +1,80 @@
+//! The stack that a call needs: the smallest thread stack on which the deepest searches and the largest texts end.
+
+use crate::jobs::{Areas, proved_pick, without_end};
+use crate::sets::SETS;
+use families::{Draft, DraftNeed};
+use second::Version;
+use std::process::Command;
+use std::thread;
+
+/// A page of memory, by which stacks grow.
+const PAGE: usize = 4_096;
+
+/// The smallest stack, in bytes, on which all picks of a kind end; no more than 1 MiB is tried.
+pub fn least(kind: &str) -> Option<usize> {
+    (1..=256)
+        .map(|pages| pages * PAGE)
+        .find(|&bytes| ends_on(kind, bytes))
+}
+
+/// Whether a run of this program with such a stack ends well.
+fn ends_on(kind: &str, bytes: usize) -> bool {
+    let Ok(program) = std::env::current_exe() else {
+        return false;
+    };
+    let run = Command::new(program)
+        .args(["stack", kind, &bytes.to_string()])
+        .output();
+    run.is_ok_and(|output| output.status.success())
+}
+
+/// Picks on a thread with a stack of so many bytes. A stack that is too small ends the program by a signal.
+pub fn run_on(kind: &str, bytes: &str) {
+    let texts = if kind == "flat" { flat() } else { deep() };
+    let mut areas = Areas::new();
+    let picks = move || {
+        texts
+            .iter()
+            .map(|text| proved_pick(text, &mut areas))
+            .sum::<u32>()
+    };
+    let size = bytes.parse().unwrap_or(PAGE);
+    let thread = thread::Builder::new().stack_size(size).spawn(picks);
+    let _ = thread.expect("a thread starts").join();
+}
+
+/// Texts without a search: a root alone, a text that is too long, and the largest, each without its end.
+fn flat() -> Vec<Vec<u8>> {
+    let mut texts = vec![Draft::with_root().text(), vec![b'0'; 32_769]];
+    for set in SETS {
+        texts.extend(set.texts(2).iter().map(|text| without_end(text).to_vec()));
+    }
+    texts
+}
+
+/// The deepest searches, one that ends well and one that doesn't, and two of each set.
+fn deep() -> Vec<Vec<u8>> {
+    let mut texts = vec![chain(true), chain(false)];
+    for set in SETS {
+        texts.extend(set.texts(2));
+    }
+    texts
+}
+
+/// Each of 32 modules needs the next, so that the search goes 31 choices deep; the last needs the root, in a good range or in a bad one.
+fn chain(good: bool) -> Vec<u8> {
+    let mut draft = Draft::with_root();
+    for _ in 1..32 {
+        draft.add([Version::new(1, 0, 0)]);
+    }
+    for module in 0..31 {
+        draft.need(module, 0, DraftNeed::any(module + 1));
+    }
+    let last = if good {
+        DraftNeed::any(0)
+    } else {
+        DraftNeed::unmet(0, 9)
+    };
+    draft.need(31, 0, last);
+    draft.text()
+}

@@ -1,0 +1,16 @@
+//! The proved calls, linked as an archive, compared with the second picker on the same texts and areas.
+//!
+//! * [`proved`] calls the archive; it is the only module with unsafe code;
+//! * [`area`] lends areas with guard bytes around them;
+//! * [`picks`] compares one pick: the answer and every byte of every area;
+//! * [`cases`] makes texts, areas and allowances from seeds;
+//! * [`run`](mod@run) compares a range of seeds on all processors.
+
+pub mod area;
+pub mod cases;
+pub mod picks;
+pub mod proved;
+pub mod run;
+
+pub use picks::{Difference, Lent, compare_pick};
+pub use run::{Tally, run};
