@@ -3,11 +3,11 @@
 use mathlib.Core.Path.{_≡_, refl, sym, _∙_, ap, ap₂, subst}
 use mathlib.Core.Logic.{_≢_, inl, inr}
 use mathlib.Core.Bool.{true, false, _&&_}
-use mathlib.Core.List.{List, flatMap}
-use mathlib.Core.Option.{Option, none, some}
-use Prim.Native.Nat.{ℕ, _+_, _*_, _≤_, _<_}
+use mathlib.Core.List.{List}
+use mathlib.Core.Option.{Option, none}
+use Prim.Native.Nat.{ℕ, _+_, _*_, _≤_}
 use native.Mathlib.Omega.{arith}
-use lib.Dec.{leb, eqb}
+use lib.Dec.{leb}
 use lib.ListN.{length, take, replicate}
 use lib.Seq.{sets}
 use borrow.Author.Tests.{leb-true, eqb-true}
@@ -15,7 +15,7 @@ use Rattle.rules.specs.Lines.{Fault, fault, fine}
 use Rattle.rules.specs.Catalogue.{Catalogue, limits, textFault, catalogueOf}
 use Rattle.rules.specs.Selection.{Selection, selectionText}
 use Rattle.rules.specs.Search.{best, trialsOf}
-use Rattle.rules.specs.Sheet.{Entry, mostLines, entryText, isRefuting, sheetText}
+use Rattle.rules.specs.Sheet.{mostLines, sheetText}
 use Rattle.rules.proofs.Lists.{and-fst, and-snd, not-both}
 use Rattle.rules.proofs.Theorems.{sheets-tell}
 use Rattle.catalogue.specs.declared.reading.Lines.{Lines}
@@ -26,7 +26,7 @@ use Rattle.selection.specs.Written.{textIn}
 use Rattle.selection.proofs.Whole.{settled-few, text-length}
 use Rattle.selection.proofs.Selected.{text-is-the-rules}
 use Rattle.picker.specs.declared.Picked.{Picked}
-use Rattle.picker.specs.Entry.{selectionLeast, sheetLeast, workLeast, areasFit, over, zeroed, picked, isFine, SheetOwes, OutcomeOwes, ReadOwes, PickOwes}
+use Rattle.picker.specs.Entry.{selectionLeast, sheetLeast, workLeast, areasFit, over, zeroed, picked, isFine, SheetWritten, SheetOwes, OutcomeOwes, ReadOwes, PickOwes}
 use Rattle.picker.specs.Inside.{HasRoom, searchOf}
 use Rattle.picker.specs.Written.{sheetIn}
 use Rattle.picker.proofs.Turns.{stored-over}
@@ -46,9 +46,9 @@ has-room s h w a e =
     }
 
 -- A REFUSED TEXT: its number and line, and nothing is written
-pub refused : {text s h w : List ℕ} {a : ℕ} {l : Lines} {r : Picked} → HasRoom s h w a → CatalogueRead text l → l .number ≢ 0 →
+pub refused : {text s h : List ℕ} {a : ℕ} {l : Lines} {r : Picked} → CatalogueRead text l → l .number ≢ 0 →
     r ≡ picked (fault (l .number) (l .line)) 0 → ReadOwes text s h a r s h
-refused room read bad e =
+refused read bad e =
     record {
       refused = λ q. (e ∙ ap (λ (x : Fault). picked x 0) (read .fault-is), refl, refl);
       read = λ q. absurd (bad (ap (λ (x : Fault). x .number) (read .fault-is) ∙ eqb-true _ 0 q));
@@ -157,19 +157,23 @@ module _ {text s h w : List ℕ} {a : ℕ} {l : Lines} (k : Known text s h w a l
               unwritten = λ q. absurd (omega (arith, q, is-nine));
               too-small = λ q. absurd (omega (arith, q, is-nine));
               none-allowed = λ q. absurd (omega (arith, q, left .within, count-lines));
-              written = λ q. (linesOf c, (refutes, left .within, ap (λ (x : Picked). x .size) p ∙ n ∙ ap length rules-sheet, after));
+              written = λ q. is-written;
             }
           where
             is-nine : r .number ≡ 9
             is-nine = ap (λ (x : Picked). x .number) p
 
-            after : v ≡ over (sheetText (linesOf c)) h
-            after =
-                e ∙ stored-over (sheetFrom f area) h (omega (arith, sheet-fits, k .room .sheet-room)) ∙
-                ap (λ (t : List ℕ). over t h) rules-sheet
-
-            refutes : isRefuting c (linesOf c) ≡ true
-            refutes = sheets-tell c (k .well .well-formed) .0 none-best .1 (omega (arith, count-lines, left .within, k .room .few-lines))
+            is-written : SheetWritten c h a r v
+            is-written =
+                record {
+                  entries = linesOf c;
+                  refutes = sheets-tell c (k .well .well-formed) .0 none-best .1 (omega (arith, count-lines, left .within, k .room .few-lines));
+                  within = left .within;
+                  size = ap (λ (x : Picked). x .size) p ∙ n ∙ ap length rules-sheet;
+                  text =
+                      e ∙ stored-over (sheetFrom f area) h (omega (arith, sheet-fits, k .room .sheet-room)) ∙
+                      ap (λ (t : List ℕ). over t h) rules-sheet;
+                }
 
 -- A WHOLE PICK: areas that don't fit change nothing
 pub unfit-owed : (text s h w : List ℕ) (a : ℕ) {r : Picked} → areasFit s h w a ≡ false → r ≡ picked (fault 11 0) 0 → PickOwes text s h w a r s h w

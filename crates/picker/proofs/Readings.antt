@@ -9,10 +9,9 @@ use native.Mathlib.Omega.{arith}
 use lib.Dec.{ltb, eqb}
 use lib.ListN.{length, getD}
 use borrow.Author.Tests.{eqb-false}
-use Rattle.rules.specs.Lists.{upFrom}
 use Rattle.rules.specs.Lines.{Fault, fault, fine, Line, linesOf}
 use Rattle.rules.specs.Frames.{frameOf, Reader, Read, bad, got, lineFault, readFrom, readText, faultOf}
-use Rattle.rules.specs.Catalogue.{Catalogue, Reading, limits, readCatalogue, textFault, catalogueOf, placesOf, WellFormed, Carried}
+use Rattle.rules.specs.Catalogue.{Catalogue, limits, readCatalogue, textFault, catalogueOf, WellFormed, Carried}
 use Rattle.rules.proofs.Lists.{mem-upFrom, keep-mem, below-mem, length-upFrom}
 use Rattle.rules.proofs.Theorems.{reads-well-formed}
 use Rattle.store.specs.declared.frame.State.{State}

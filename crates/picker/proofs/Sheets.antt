@@ -1,12 +1,12 @@
 -- A sheet's text: its three parts, stored one behind the other, make it (`sheet-stored`); it is the rules' text of the sheet (`sheet-is-the-rules`),
 -- and no sheet within the most lines is longer than its area (`lines-short`). Assumes nothing.
-use mathlib.Core.Path.{_≡_, refl, _∙_, ap}
+use mathlib.Core.Path.{_≡_, _∙_, ap}
 use mathlib.Core.List.{List, [], _∷_, _++_, flatMap}
 use Prim.Native.Nat.{ℕ, _+_, _*_, _/_, _%_, _≤_, _<_}
 use native.Mathlib.Omega.{arith}
 use lib.ListN.{length, length-append}
 use lib.Seq.{sets}
-use Rattle.rules.specs.Frames.{frameText, pairBytes}
+use Rattle.rules.specs.Frames.{pairBytes}
 use Rattle.rules.specs.Sheet.{Entry, cites, resolves, entryText, sheetText}
 use Rattle.rules.proofs.Written.{frame-length}
 use Rattle.frames.proofs.Areas.{sets-append}

@@ -12,7 +12,8 @@ returns : tie.Need-returns
 returns c =
     let at-test = c .before in
     let given = at-test .before .before .before .before .before .args in
-    unfit-owed (given .text .now) (given .selection .now) (given .sheet .now) (given .work .now) (given .allowance) (not-true _ (at-test .if1 .taken)) (c .answer .ensures)
+    unfit-owed (given .text .now) (given .selection .now) (given .sheet .now) (given .work .now) (given .allowance)
+    (not-true _ (at-test .if1 .taken)) (c .answer .ensures)
 
 pick-in-requires : tie.Need-pick-in-requires
 pick-in-requires c κs =

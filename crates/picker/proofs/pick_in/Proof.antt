@@ -17,7 +17,7 @@ returns : tie.Need-returns
 returns c =
     let at-test = c .before in
     let at-read = at-test .before .before in
-    refused (at-read .before .before .before .before .before .pre) (at-read .read .ensures) (at-test .if1 .taken) (c .answer .ensures)
+    refused (at-read .read .ensures) (at-test .if1 .taken) (c .answer .ensures)
 
 find-in-requires : tie.Need-find-in-requires
 find-in-requires c κs =
@@ -122,8 +122,8 @@ returns-4 c =
     let at-test = at-find .before .before .before .before in
     let at-read = at-test .before .before in
     let is-known = known (at-read .before .before .before .before .before .pre) (at-read .read .ensures) (at-test .if1 .left) in
-    sheeted is-known (at-find .find-in .ensures .0) (at-found .if2 .left) (at-find .find-in .ensures .1) (at-over .if3 .left) (at-writing .write-sheet .ensures .0)
-    (at-writing .write-sheet .ensures .1) (c .answer4 .ensures)
+    sheeted is-known (at-find .find-in .ensures .0) (at-found .if2 .left) (at-find .find-in .ensures .1) (at-over .if3 .left)
+    (at-writing .write-sheet .ensures .0) (at-writing .write-sheet .ensures .1) (c .answer4 .ensures)
 
 pub pick-in-spec : {M : Type 1} → statement M
 pick-in-spec =

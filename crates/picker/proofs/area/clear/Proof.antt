@@ -1,6 +1,5 @@
 -- `picker::area::clear` meets its contract. The loop's invariant: the first `i` bytes are 0, and the others as they were.
 use Prim.Native.Nat.{_-_}
-use native.Mathlib.Omega.{arith}
 use lib.ListN.{length}
 use borrow.Author.Needs.{needs}
 use Rattle.picker.proofs.Turns.{Cleared, none-copied, one-cleared, all-cleared}

@@ -1,7 +1,6 @@
 -- `picker::area::copy` meets its contract. The loop's invariant: the first `i` bytes are copied.
 use mathlib.Core.Path.{refl}
 use Prim.Native.Nat.{_-_}
-use native.Mathlib.Omega.{arith}
 use borrow.Author.Needs.{needs}
 use Rattle.picker.proofs.Turns.{Copied, none-copied, one-copied, all-copied}
 use Rattle.picker.proofs.area.copy.Statement.{statement}
