@@ -26,7 +26,8 @@ use Rattle.selection.specs.Written.{textIn}
 use Rattle.selection.proofs.Whole.{settled-few, text-length}
 use Rattle.selection.proofs.Selected.{text-is-the-rules}
 use Rattle.picker.specs.declared.Picked.{Picked}
-use Rattle.picker.specs.Entry.{selectionLeast, sheetLeast, workLeast, areasFit, over, zeroed, picked, isFine, SheetWritten, SheetOwes, OutcomeOwes, ReadOwes, PickOwes}
+use Rattle.picker.specs.Entry.{selectionLeast, sheetLeast, workLeast, areasFit, over, zeroed, picked, isFine}
+use Rattle.picker.specs.Entry.{SheetWritten, SheetOwes, OutcomeOwes, ReadOwes, PickOwes}
 use Rattle.picker.specs.Inside.{HasRoom, searchOf}
 use Rattle.picker.specs.Written.{sheetIn}
 use Rattle.picker.proofs.Turns.{stored-over}
