@@ -2,25 +2,18 @@
 use mathlib.Core.Path.{_≡_}
 use mathlib.Core.Bool.{cond}
 use mathlib.Core.List.{List, []}
-use Prim.Native.Nat.{ℕ, _*_, _-_}
-use lib.Dec.{leb, ltb, eqb}
+use Prim.Native.Nat.{ℕ}
+use lib.Dec.{ltb, eqb}
 use lib.ListN.{length, getD}
-use Rattle.rules.specs.Lines.{fault, orElse, unless, linesOf}
+use Rattle.rules.specs.Lines.{fault, unless, linesOf}
 use Rattle.rules.specs.Frames.{Reader, bad, readFrom}
 use Rattle.rules.specs.Catalogue.{Reading, reading, noCatalogue, limits, catalogueReader, textFault}
 use Rattle.frames.specs.Reached.{reachedFrom}
-use Rattle.frames.specs.declared.kinds.Kind.{Kind}
-use Rattle.store.specs.declared.frame.Fields.{Fields}
-use Rattle.store.specs.declared.frame.State.{State}
-use Rattle.store.specs.declared.frame.Last.{Last}
+use Rattle.frames.specs.Faults.{endFault}
+use Rattle.frames.specs.declared.faults.Fault.{Fault}
 use Rattle.catalogue.specs.declared.reading.Lines.{Lines}
-use Rattle.store.specs.Frame.{stateOf, frameFault}
+use Rattle.store.specs.Frame.{stateOf}
 use Rattle.store.specs.Tables.{noTables, Holds}
-
--- 2, 3 and 4 by the bytes of a line and their sum, and then what is wrong with the frame
-unfoldable pub lineFaultOf : (bytes sum : ℕ) → Kind → State → Last → (count : ℕ) → Fields → ℕ
-lineFaultOf n x r s z k f =
-    orElse (unless (leb 2 n) 2) (orElse (unless (eqb x 0) 3) (orElse (unless (eqb (r .digits) (n * 2)) 4) (frameFault limits s z k f)))
 
 abbrev pub start : Reading
 start = reading 0 noCatalogue
@@ -39,17 +32,12 @@ pub record LinesRead (t : List ℕ) (r : Lines) : Type 0 where
       readFrom reader 1 start (linesOf t) ≡ cond (eqb (r .number) 0) (readFrom reader (r .line) (reached t) []) (bad (fault (r .number) (r .line)))
 
 -- the same reading, with another fault told
-abbrev pub withFault : Lines → (number line : ℕ) → Lines
-withFault r n i = record { number = n; line = i; state = r .state; tables = r .tables }
+abbrev pub withFault : Lines → Fault → Lines
+withFault r x = record { number = x .number; line = x .line; state = r .state; tables = r .tables }
 
 -- when every line is good: 5 where there is no end, 8 where the root hasn't exactly one version
 unfoldable pub finished : Lines → Lines
-finished r =
-    cond (eqb (r .number) 0)
-    (cond (eqb (r .state .stands) 2)
-    (cond (eqb (getD (r .tables .counts) 0 0) 1) (withFault r 0 0) (withFault r 8 (r .line - 1)))
-    (withFault r 5 (r .line)))
-    r
+finished r = withFault r (endFault (r .number) (r .line) (eqb (r .state .stands) 2) (unless (eqb (getD (r .tables .counts) 0 0) 1) 8))
 
 abbrev pub nothingRead : (number : ℕ) → Lines
 nothingRead n = record { number = n; line = 0; state = stateOf start; tables = noTables }

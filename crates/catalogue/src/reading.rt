@@ -1,11 +1,13 @@
 // A catalogue's text read line by line, as far as the first faulty line.
 ghost use mathlib.Core.Path.{_≡_};
-ghost use Prim.Native.Nat.{_-_, _≤_};
+ghost use Prim.Native.Nat.{_≤_};
 ghost use lib.ListN.{length};
 ghost use Rattle.rules.specs.Catalogue.{limits};
-ghost use Rattle.catalogue.specs.Reading.{LinesRead, lineFaultOf, withFault, finished, nothingRead, CatalogueRead};
+ghost use Rattle.catalogue.specs.Reading.{LinesRead, withFault, finished, nothingRead, CatalogueRead};
 use frames::digits::Pair;
 use frames::digits::pair_at;
+use frames::faults;
+use frames::faults::Fault;
 use frames::fields::LONGEST;
 use frames::fields::put;
 use frames::kinds;
@@ -26,31 +28,6 @@ pub struct Lines {
     pub line: u32,
     pub state: State,
     pub tables: Tables,
-}
-
-// 2, 3 and 4, and then what is wrong with the frame.
-fn line_fault(
-    bytes: usize,
-    sum: u32,
-    row: kinds::Kind,
-    s: State,
-    last: frame::Last,
-    count: u16,
-    f: frame::Fields,
-) -> u8
-    requires { ⌜ bytes ≤ limits .bytes ⌝ }
-    ensures { λ r. ⌜ r ≡ lineFaultOf bytes sum row s last count f ⌝ }
-{
-    if bytes < 2 {
-        return 2;
-    }
-    if sum != 0 {
-        return 3;
-    }
-    if row.digits as usize != bytes * 2 {
-        return 4;
-    }
-    frame::frame_fault(s, last, count, f)
 }
 
 // Lines of digits, a frame a line. The digit loop is left at the first character that can't stand, and the reading at the first faulty line.
@@ -103,7 +80,8 @@ pub fn read_lines(text: &[u8]) -> Lines
         let last = tables::last_of(&values, &owners, &marks, s.versions);
         let m = f.owner;
         let count = access::half_at(&counts, m.0 as usize);
-        number = line_fault(bytes, sum, row, s, last, count, f);
+        let found = frame::frame_fault(s, last, count, f);
+        number = faults::line_fault(bytes, sum, row, found);
         if number != 0 {
             break 'lines;
         }
@@ -143,43 +121,26 @@ pub fn read_lines(text: &[u8]) -> Lines
     }
 }
 
-// The line before, for a count of at least one.
-fn line_before(line: u32) -> u32
-    ensures { λ r. ⌜ r ≡ line - 1 ⌝ }
-{
-    if line == 0 {
-        return 0;
-    }
-    line - 1
-}
-
 // The same reading, with another fault told.
-fn with_fault(l: Lines, number: u8, line: u32) -> Lines
-    ensures { λ r. ⌜ r ≡ withFault l number line ⌝ }
+fn with_fault(l: Lines, told: Fault) -> Lines
+    ensures { λ r. ⌜ r ≡ withFault l told ⌝ }
 {
-    let mut told = l;
-    told.number = number;
-    told.line = line;
-    told
+    let mut next = l;
+    next.number = told.number;
+    next.line = told.line;
+    next
 }
 
 // When every line is good: 5 where there is no end, and 8 where the root hasn't exactly one version.
 fn finish(l: Lines) -> Lines
     ensures { λ r. ⌜ r ≡ finished l ⌝ }
 {
-    if l.number != 0 {
-        return l;
-    }
     let s = l.state;
-    if s.stands != 2 {
-        return with_fault(l, 5, l.line);
-    }
     let t = l.tables;
     let roots = access::half_at(&t.counts, 0);
-    if roots != 1 {
-        return with_fault(l, 8, line_before(l.line));
-    }
-    with_fault(l, 0, 0)
+    let last = faults::unless(roots == 1, 8);
+    let told = faults::end_fault(l.number, l.line, s.stands == 2, last);
+    with_fault(l, told)
 }
 
 // Tables that hold nothing, and a fault.

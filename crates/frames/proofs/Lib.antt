@@ -3,3 +3,5 @@ pub mod Pairs
 pub mod Areas
 pub mod Lines
 pub mod InLine
+pub mod Judged
+pub mod Steps

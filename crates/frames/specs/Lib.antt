@@ -2,4 +2,5 @@
 pub mod Numbers
 pub mod Digits
 pub mod Kinds
+pub mod Faults
 pub mod Reached

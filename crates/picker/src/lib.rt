@@ -31,6 +31,13 @@ pub struct Picked {
     pub size: u32,
 }
 
+// The checker's answer: a number of the rules' table (0: the sheet is accepted), the line told, and the text at fault: 0 neither, 1 the catalogue, 2 the sheet.
+pub struct Checked {
+    pub number: u8,
+    pub line: u32,
+    pub text: u8,
+}
+
 // Numbers of the rules' table: a selection is written, no valid selection with a sheet written and without one, and areas that don't fit.
 const SELECTED: u8 = 0;
 

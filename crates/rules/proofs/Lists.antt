@@ -372,3 +372,24 @@ upFrom-last i zero = let e : i ≡ i + 0 = omega arith in ap (λ (k : ℕ). k �
 upFrom-last i (suc n) =
     let e : suc i + n ≡ i + suc n = omega arith in
     ap (λ (l : List ℕ). i ∷ l) (upFrom-last (suc i) n ∙ ap (λ (k : ℕ). longer (upFrom (suc i) n) k) e)
+
+-- LISTS KEPT BY A TEST: of one number more, by a test that is the same for the others
+keep-more-from : (f g : ℕ → Bool) (i n : ℕ) → ((k : ℕ) → k < i + n → g k ≡ f k) →
+    keep g (upFrom i (suc n)) ≡ keep f (upFrom i n) ++ cond (g (i + n)) ((i + n) ∷ []) []
+unfolding keep upFrom
+keep-more-from f g i zero h = let e : i + 0 ≡ i = omega arith in rw e
+keep-more-from f g i (suc n) h =
+    let e : i + suc n ≡ suc i + n = omega arith in
+    rw (h i (omega arith), e, keep-more-from f g (suc i) n (λ k l. h k (omega arith))) (go (f i))
+  where
+    new : List ℕ
+    new = cond (g (suc i + n)) ((suc i + n) ∷ []) []
+
+    go : (b : Bool) → cond b (i ∷ (keep f (upFrom (suc i) n) ++ new)) (keep f (upFrom (suc i) n) ++ new) ≡
+        cond b (i ∷ keep f (upFrom (suc i) n)) (keep f (upFrom (suc i) n)) ++ new
+    go true = refl
+    go false = refl
+
+-- the same from 0 on
+pub keep-more : (f g : ℕ → Bool) (n : ℕ) → ((k : ℕ) → k < n → g k ≡ f k) → keep g (below (suc n)) ≡ keep f (below n) ++ cond (g n) (n ∷ []) []
+keep-more f g n h = let e : 0 + n ≡ n = omega arith in rw e at (keep-more-from f g 0 n (λ k l. h k (omega arith)))

@@ -1,5 +1,6 @@
 -- The line loop that all readers share: a text is read without a fault exactly when there is a run through its lines, and what holds at the
--- start of a run and is kept by each good line holds at its end. Assumes nothing.
+-- start of a run and is kept by each good line holds at its end. Two readers that find the same in every frame tell the same fault (`same-told`).
+-- Assumes nothing.
 use mathlib.Core.Path.{_≡_, refl, ap}
 use mathlib.Core.Logic.{_≢_}
 use mathlib.Core.Bool.{Bool, true, false, cond}
@@ -8,9 +9,10 @@ use Prim.Native.Nat.{ℕ, suc, _-_, _≤_}
 use native.Mathlib.Omega.{arith}
 use lib.Dec.{ltb, eqb}
 use lib.ListN.{length}
-use borrow.Author.Tests.{eqb-true, eqb-false, ltb-false, le-ltb}
+use borrow.Author.Tests.{leb-true, eqb-true, eqb-false, ltb-false, le-ltb}
 use Rattle.rules.specs.Lines.{Fault, fault, fine, orElse, unless, Line, linesOf, shapeFits}
-use Rattle.rules.specs.Frames.{frameOf, sumFits, kindFits, Reader, Read, bad, got, lineFault, readFrom, readText, faultOf}
+use Rattle.rules.specs.Frames.{frameOf, kindOf, digitsFor, sumFits, kindFits, Reader, Read, bad, got, lineFault, readFrom, readText, faultOf}
+use Rattle.rules.proofs.Lists.{and-fst, and-snd}
 
 -- a run of a reader from a state through lines to a state: every line is good, and the last is the end
 pub data Run {S : Type 0} (r : Reader S) : S → List Line → S → Type 0 where
@@ -118,3 +120,70 @@ module _ {S : Type 0} (r : Reader S) where
       {s u : S} {ls : List Line} → P s → Run r s ls u → P u × (r .isEnded u ≡ true) × (r .last u ≡ 0)
   run-keeps P keeps p (stop e z) = (p, e, z)
   run-keeps P keeps p (step {s} {l = l} e n) = run-keeps P keeps (keeps s l p (good-line s l e)) n
+
+-- equal tests in order, and what follows them where they pass
+pub in-order : (a b d : Bool) (x y : ℕ) → (a ≡ true → d ≡ true → x ≡ y) →
+    orElse (unless a 2) (orElse (unless b 3) (orElse (unless d 4) x)) ≡ orElse (unless a 2) (orElse (unless b 3) (orElse (unless d 4) y))
+in-order false b d x y h = refl
+in-order true false d x y h = refl
+in-order true true false x y h = refl
+in-order true true true x y h = rw (h refl refl)
+
+-- a line that fits its kind is of a kind that the text has
+fits-known : (text : ℕ) (l : Line) → shapeFits l ≡ true → kindFits text l ≡ true → digitsFor text (kindOf (frameOf (l .digits))) ≢ 0
+unfolding shapeFits kindFits
+fits-known text l a d z =
+    let four = leb-true 4 (length (l .digits)) (search (and-fst, and-snd)) in
+    let same = eqb-true (length (l .digits)) (digitsFor text (kindOf (frameOf (l .digits)))) d in
+    omega arith
+
+-- TWO READERS of one text whose states go together: both find the same in a frame of a known kind, and stay together after a good one
+module _ {S T : Type 0} (r : Reader S) (q : Reader T) (text : r .text ≡ q .text) (R : S → T → Type 0)
+    (faults : (s : S) (t : T) → R s t → (f : List ℕ) → digitsFor (q .text) (kindOf f) ≢ 0 → r .fault s f ≡ q .fault t f)
+    (goes : (s : S) (t : T) → R s t → (f : List ℕ) → digitsFor (q .text) (kindOf f) ≢ 0 → q .fault t f ≡ 0 → R (r .after s f) (q .after t f))
+    (ends : (s : S) (t : T) → R s t → r .isEnded s ≡ q .isEnded t)
+    (lasts : (s : S) (t : T) → R s t → q .isEnded t ≡ true → r .last s ≡ q .last t) where
+  same-line : (s : S) (t : T) → R s t → (l : Line) → lineFault r s l ≡ lineFault q t l
+  unfolding lineFault
+  same-line s t p l =
+      rw text
+      (in-order (shapeFits l) (sumFits l) (kindFits (q .text) l) _ _ (λ a d. faults s t p (frameOf (l .digits)) (fits-known (q .text) l a d)))
+
+  same-lines : (i : ℕ) (s : S) (t : T) → R s t → (ls : List Line) → faultOf (readFrom r i s ls) ≡ faultOf (readFrom q i t ls)
+  unfolding readFrom
+  same-lines i s t p [] = rw (ends s t p) (go (q .isEnded t) refl)
+    where
+      tell : {A : Type 0} → A → ℕ → Bool → Bool → Read A
+      tell x k a b = cond a (cond b (got x) (bad (fault k (i - 1)))) (bad (fault 5 i))
+
+      last : (b : Bool) → faultOf (tell s (q .last t) true b) ≡ faultOf (tell t (q .last t) true b)
+      last true = refl
+      last false = refl
+
+      go : (a : Bool) → q .isEnded t ≡ a → faultOf (tell s (r .last s) a (eqb (r .last s) 0)) ≡ faultOf (tell t (q .last t) a (eqb (q .last t) 0))
+      go true e = rw (lasts s t p e) (last (eqb (q .last t) 0))
+      go false e = refl
+  same-lines i s t p (l ∷ ls) =
+      rw (same-line s t p l) (go (eqb (lineFault q t l) 0) refl (λ h. same-lines (suc i) (r .after s f) (q .after t f) h ls))
+    where
+      f : List ℕ
+      f = frameOf (l .digits)
+
+      tell : {A : Type 0} → Read A → Bool → Read A
+      tell x b = cond b x (bad (fault (lineFault q t l) i))
+
+      go : (b : Bool) → eqb (lineFault q t l) 0 ≡ b →
+          (R (r .after s f) (q .after t f) → faultOf (readFrom r (suc i) (r .after s f) ls) ≡ faultOf (readFrom q (suc i) (q .after t f) ls)) →
+          faultOf (tell (readFrom r (suc i) (r .after s f) ls) b) ≡ faultOf (tell (readFrom q (suc i) (q .after t f) ls) b)
+      go true e rest =
+          let good = good-line q t l (eqb-true (lineFault q t l) 0 e) in
+          rest (goes s t p f (fits-known (q .text) l (good .shape) (good .kind)) (good .content))
+      go false e rest = refl
+
+  pub same-told : (most : ℕ) (s : S) (t : T) → R s t → (x : List ℕ) → faultOf (readText r most s x) ≡ faultOf (readText q most t x)
+  unfolding readText
+  same-told most s t p x = go (ltb most (length x))
+    where
+      go : (b : Bool) → faultOf (cond b (bad (fault 1 0)) (readFrom r 1 s (linesOf x))) ≡ faultOf (cond b (bad (fault 1 0)) (readFrom q 1 t (linesOf x)))
+      go true = refl
+      go false = same-lines 1 s t p (linesOf x)

@@ -1,23 +1,26 @@
--- Reading catalogues: a text that is not refused gives a catalogue that is well formed and that the frames can carry (`reads-well-formed`).
--- The catalogue read so far is `Sound`, which each good frame keeps. Assumes nothing.
-use mathlib.Core.Path.{_≡_, refl}
+-- Reading catalogues: a text that is not refused gives a catalogue that is well formed and that the frames can carry (`reads-well-formed`), in which
+-- no module has more versions than the limit (`reads-few`). The catalogue read so far is `Sound`, which each good frame keeps. Assumes nothing.
+use mathlib.Core.Path.{_≡_, refl, _∙_, ap}
 use mathlib.Core.Logic.{_⊎_, inl, inr, ⊎-elim, _≢_}
 use mathlib.Core.Bool.{Bool, true, false, _&&_, _||_, not, cond, false≢true}
-use mathlib.Core.List.{List, [], _∷_}
+use mathlib.Core.List.{List, [], _∷_, _++_}
 use Prim.Native.Nat.{ℕ, _+_, _*_, _-_, _≤_, _<_}
 use native.Mathlib.Omega.{arith}
 use native.Mathlib.Nat.{not-suc-le-zero}
 use lib.Dec.{ltb, leb, eqb}
 use borrow.Author.Tests.{ltb-true, ltb-false, leb-true, eqb-true, eqb-false, eq-eqb, lt-ltb, not-true}
-use lib.ListN.{length, getD, List·getD-append, List·getD-eq-default}
-use Rattle.rules.specs.Lines.{Line, unless}
+use lib.ListN.{length, getD, length-append, List·getD-append, List·getD-eq-default}
+use lib.Seq.{getD-append-seam}
+use Rattle.rules.specs.Lists.{keep, upFrom}
+use Rattle.rules.specs.Lines.{Line, fine, unless}
 use Rattle.rules.specs.Frames.{frameOf, byteAt, versionAt}
-use Rattle.rules.specs.Catalogue.{Version, Need, Catalogue, catalogue, noCatalogue, noVersion, noNeed, versionAtPlace, needAt, placesOf, Limits}
+use Rattle.rules.specs.Catalogue.{Version, Need, Catalogue, catalogue, noCatalogue, noVersion, noNeed, versionAtPlace, needAt, isOf, placesOf, Limits}
 use Rattle.rules.specs.Catalogue.{CarriedLimits, WellFormed, Carried, catalogueReader, catalogueOf, Reading, reading, withFrame, isHead}
 use Rattle.rules.specs.Catalogue.{isVersion, isCaret, isNeed, lastVersion, versionIn, needIn, hasVersion, isOlder, orderFits, contentFits}
-use Rattle.rules.specs.Catalogue.{roomFits, rootFits}
+use Rattle.rules.specs.Catalogue.{roomFits, rootFits, textFault}
 use Rattle.rules.specs.Promises.{ReadsWellFormed}
 use Rattle.rules.proofs.Lists.{and-fst, and-snd, and-both, or-cases, or-fst, or-snd, same-or-not, longer, length-last, one-more, one-more-pair}
+use Rattle.rules.proofs.Lists.{keep-more}
 use Rattle.rules.proofs.Written.{good-bytes}
 use Rattle.rules.proofs.Readers.{Run, Good, orElse-none, unless-none, fine-text, run-keeps}
 
@@ -46,6 +49,38 @@ older-trans u v w p q = cases-older u w (go (older-cases u v p) (older-cases v w
     go (inr a) (inl b) = inl (omega arith)
     go (inr a) (inr b) = inr (omega arith)
 
+-- A VERSION MORE is one more of its module's
+abbrev pub moreVersions : Catalogue → Version → Catalogue
+moreVersions c v = catalogue (c .modules) (longer (c .versions) v) (c .needs)
+
+pub places-grown : (c : Catalogue) (v : Version) (m : ℕ) →
+    placesOf (moreVersions c v) m ≡ placesOf c m ++ cond (eqb (v .owner) m) (length (c .versions) ∷ []) []
+unfolding isOf
+places-grown c v m =
+    rw (length-last (c .versions) v) (keep-more (isOf c m) (isOf (moreVersions c v) m) (length (c .versions)) others ∙
+    ap (λ (b : Bool). placesOf c m ++ cond b (length (c .versions) ∷ []) []) new)
+  where
+    new : isOf (moreVersions c v) m (length (c .versions)) ≡ eqb (v .owner) m
+    new = rw (getD-append-seam (c .versions) v [] noVersion, lt-ltb _ _ more)
+      where
+        more : length (c .versions) < length (longer (c .versions) v)
+        more = omega (arith, length-last (c .versions) v)
+
+    others : (k : ℕ) → k < length (c .versions) → isOf (moreVersions c v) m k ≡ isOf c m k
+    others k h =
+        let g : k < length (longer (c .versions) v) = omega (arith, length-last (c .versions) v) in
+        rw (lt-ltb _ _ g, lt-ltb _ _ h, List·getD-append (c .versions) (v ∷ []) noVersion k h)
+
+-- so where its module has room for one, no module has more than the limit
+few-grown : (c : Catalogue) (v : Version) (most : ℕ) → length (placesOf c (v .owner)) < most → ((m : ℕ) → length (placesOf c m) ≤ most) →
+    (m : ℕ) → length (placesOf (moreVersions c v) m) ≤ most
+few-grown c v most room few m =
+    rw (places-grown c v m, length-append (placesOf c m) (cond (eqb (v .owner) m) (length (c .versions) ∷ []) [])) (go (eqb (v .owner) m) refl)
+  where
+    go : (b : Bool) → eqb (v .owner) m ≡ b → length (placesOf c m) + length (cond b (length (c .versions) ∷ []) []) ≤ most
+    go true e = let r : length (placesOf c m) < most = rw (← eqb-true (v .owner) m e) room in omega arith
+    go false e = omega (arith, few m)
+
 -- SOUND: what holds of the catalogue so far, of each version and each need in it
 record VersionSound (modules : ℕ) (v : Version) : Type 0 where
   owner : v .owner < modules
@@ -63,9 +98,11 @@ record Sound (l : Limits) (c : Catalogue) : Type 0 where
   rising : (i j : ℕ) → i < j → j < length (c .versions) → isOlder (versionAtPlace c i) (versionAtPlace c j) ≡ true
   needs : (k : ℕ) → k < length (c .needs) → NeedSound (c .modules) (c .versions) (needAt c k)
   room : length (c .needs) ≤ l .inAll
+  few : (m : ℕ) → length (placesOf c m) ≤ l .ofModule
 
 -- a catalogue with nothing in it is sound
 empty-sound : (l : Limits) (m : ℕ) → m ≤ 32 → Sound l (catalogue m [] [])
+unfolding keep upFrom
 empty-sound l m h =
     record {
       modules = h;
@@ -73,7 +110,11 @@ empty-sound l m h =
       rising = λ i j p q. absurd (not-suc-le-zero q);
       needs = λ k p. absurd (not-suc-le-zero p);
       room = omega arith;
+      few = λ k. none;
     }
+  where
+    none : 0 ≤ l .ofModule
+    none = omega arith
 
 -- "hasVersion" tells whether there is one
 has-some : (vs : List Version) → hasVersion vs ≡ true → 0 < length vs
@@ -96,14 +137,15 @@ module _ (l : Limits) (c : Catalogue) (sound : Sound l c) where
 
   -- a version that is newer than all others
   version-sound : (v : Version) → VersionSound (c .modules) v → ((i : ℕ) → i < length (c .versions) → isOlder (versionAtPlace c i) v ≡ true) →
-      Sound l (catalogue (c .modules) (longer (c .versions) v) (c .needs))
-  version-sound v h newer =
+      length (placesOf c (v .owner)) < l .ofModule → Sound l (moreVersions c v)
+  version-sound v h newer more =
       record {
         modules = sound .modules;
         versions = one-more noVersion (c .versions) v (λ i. VersionSound (c .modules)) (sound .versions) h;
         rising = one-more-pair noVersion (c .versions) v (λ u w. isOlder u w ≡ true) (sound .rising) newer;
         needs = λ k p. still (sound .needs k p);
         room = sound .room;
+        few = few-grown c v (l .ofModule) more (sound .few);
       }
     where
       still : {n : Need} → NeedSound (c .modules) (c .versions) n → NeedSound (c .modules) (longer (c .versions) v) n
@@ -118,6 +160,7 @@ module _ (l : Limits) (c : Catalogue) (sound : Sound l c) where
   -- a need of a version that is there
   need-sound : (n : Need) → NeedSound (c .modules) (c .versions) n → length (c .needs) < l .inAll →
       Sound l (catalogue (c .modules) (c .versions) (longer (c .needs) n))
+  unfolding isOf
   need-sound n h g =
       record {
         modules = sound .modules;
@@ -125,6 +168,7 @@ module _ (l : Limits) (c : Catalogue) (sound : Sound l c) where
         rising = sound .rising;
         needs = one-more noNeed (c .needs) n (λ k. NeedSound (c .modules) (c .versions)) (sound .needs) h;
         room = omega (arith, length-last (c .needs) n);
+        few = sound .few;
       }
 
 -- GOOD FRAMES: what a good line says of its frame
@@ -167,8 +211,8 @@ module _ (l : Limits) (s : Reading) (f : List ℕ) (fits : Fits l s f) (sound : 
       (search (and-fst, and-snd), search (and-fst, and-snd))
 
   version-kept : isHead f ≡ false → isVersion f ≡ true → Sound l (withFrame (s .sofar) f)
-  unfolding contentFits withFrame
-  version-kept e v = rw (e, v) (version-sound l (s .sofar) sound (versionIn f) fit newer)
+  unfolding contentFits roomFits withFrame
+  version-kept e v = rw (e, v) (version-sound l (s .sofar) sound (versionIn f) fit newer (ltb-true _ _ (rw v at (fits .room))))
     where
       fit : VersionSound (s .sofar .modules) (versionIn f)
       fit =
@@ -264,3 +308,9 @@ reads-well-formed l t k e =
     let read = fine-text (catalogueReader l) (l .bytes) (reading 0 noCatalogue) t e in
     let (sound, root) = run-sound l (read .3) in
     rw (read .1, catalogueOf) (sound-well-formed l _ sound root, sound-carried l _ k sound)
+
+-- and in which no module has more versions than the limit
+pub reads-few : (l : Limits) (t : List ℕ) → textFault l t ≡ fine → (m : ℕ) → length (placesOf (catalogueOf l t) m) ≤ l .ofModule
+reads-few l t e m =
+    let read = fine-text (catalogueReader l) (l .bytes) (reading 0 noCatalogue) t e in
+    rw (read .1, catalogueOf) (run-sound l (read .3) .0 .few m)

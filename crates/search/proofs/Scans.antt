@@ -1,57 +1,80 @@
--- Laws of the scans that loops make: what a state that isn't 0 brings, and that a scan from where a loop stands finds what the whole scan finds.
+-- Laws of the scans: what each call is told, and that a scan from where a loop stands finds what the whole scan finds.
 -- Assumes nothing.
-use mathlib.Core.Path.{_≡_, sym, _∙_, ap, ap₂}
-use mathlib.Core.Logic.{_≢_}
+use mathlib.Core.Path.{_≡_, sym, _∙_, ap}
+use mathlib.Core.Logic.{_⊎_, inl, inr, _≢_}
 use mathlib.Core.Bool.{Bool, true, false, _&&_, not, cond}
 use mathlib.Core.List.{List}
 use Prim.Native.Nat.{ℕ, zero, suc, _+_, _-_, _≤_, _<_}
 use native.Mathlib.Omega.{arith}
 use native.Mathlib.Numerals.{add-one, unary-clauses}
 use native.Mathlib.Nat.{not-suc-le-zero}
-use borrow.Author.Tests.{eq-eqb, ne-eqb}
+use borrow.Author.Tests.{not-true, eqb-true, eq-eqb, ne-eqb}
 use lib.Dec.{eqb}
 use lib.ListN.{getD}
 use Rattle.rules.specs.Catalogue.{isWithin}
-use Rattle.rules.proofs.Lists.{cond-true, cond-false}
+use Rattle.rules.proofs.Lists.{and-fst, and-snd, not-both, cond-true, cond-false}
+use Rattle.frames.specs.declared.numbers.Version.{Version}
+use Rattle.store.specs.Frame.{version}
+use Rattle.store.specs.Tables.{needsIn}
+use Rattle.store.specs.declared.lookup.Span.{Span}
 use Rattle.search.specs.Scan.{noNumber, leavesOutIn, barsIn, firstIn, scanState, scanIn, overIn}
 
 -- a state that isn't 0 has a version at one place less
-pub left-out : (values lows highs : List ℕ) (k x : ℕ) → 0 < x →
-    leavesOutIn values lows highs k x ≡ not (isWithin (getD lows k 0) (getD highs k 0) (getD values (x - 1) 0))
-left-out vs ls hs k zero h = absurd (not-suc-le-zero h)
-left-out vs ls hs k (suc i) h = simp unary-clauses
+pub one-back : (x : ℕ) → x ≢ 0 → suc (x - 1) ≡ x
+one-back x n = omega arith
 
-pub state-scan : (starts marks : List ℕ) (f : ℕ → Bool) (x : ℕ) → 0 < x →
-    scanState starts marks f x ≡ firstIn f (getD starts (x - 1) 0) (getD marks (x - 1) 0 - 1)
-state-scan ss ms f zero h = absurd (not-suc-le-zero h)
-state-scan ss ms f (suc j) h = simp unary-clauses
+-- WHAT A CALL IS TOLD is what the tables have: each premise is what one call ensures
+pub told-left-out : (values lows highs : List ℕ) (k i : ℕ) {v : Version} {a b : ℕ} {r : Bool} → v ≡ version (getD values i 0) → a ≡ getD lows k 0 →
+    b ≡ getD highs k 0 → r ≡ isWithin a b (v .0) → not r ≡ leavesOutIn values lows highs k (suc i)
+told-left-out vs ls hs k i p q s t = rw (t, p, q, s)
 
--- what a call is told is what the tables have: each premise is what one call ensures
-module _ (values lows highs : List ℕ) (k x : ℕ) where
-  pub told-left-out : {v a b : ℕ} {r : Bool} → 0 < x → v ≡ getD values (x - 1) 0 → a ≡ getD lows k 0 → b ≡ getD highs k 0 →
-      r ≡ isWithin a b v → not r ≡ leavesOutIn values lows highs k x
-  told-left-out h p q s t = rw (t, p, q, s) (sym (left-out values lows highs k x h))
+-- a need of the module that is tried, and one of another module
+module _ (values targets lows highs chosen : List ℕ) (m x k : ℕ) {own : Bool} {target : ℕ} (t : target ≡ getD targets k 0) where
+  module _ (e : own ≡ true) {met : ℕ} (p : met ≡ getD chosen target 0) where
+    held-against : {b : Bool} → b ≡ leavesOutIn values lows highs k met → b ≡ barsIn values targets lows highs chosen own m x k
+    held-against q = q ∙ ap (leavesOutIn values lows highs k) (p ∙ ap (λ (y : ℕ). getD chosen y 0) t) ∙ sym (cond-true _ _ e)
 
-  module _ (targets chosen : List ℕ) (m : ℕ) {own : Bool} {target : ℕ} {r : Bool} (t : target ≡ getD targets k 0) where
-    pub told-own : {met : ℕ} → own ≡ true → met ≡ getD chosen target 0 → r ≡ leavesOutIn values lows highs k met →
-        r ≡ barsIn values targets lows highs chosen own m x k
-    told-own e p q = q ∙ ap (leavesOutIn values lows highs k) (p ∙ ap (λ (y : ℕ). getD chosen y 0) t) ∙ sym (cond-true _ _ e)
+    pub told-absent : met ≡ 0 → false ≡ barsIn values targets lows highs chosen own m x k
+    told-absent z = held-against (ap (leavesOutIn values lows highs k) (sym z))
 
-    pub told-other : own ≡ false → r ≡ leavesOutIn values lows highs k x → (eqb target m && r) ≡ barsIn values targets lows highs chosen own m x k
-    told-other e q = ap₂ (λ (y : ℕ) (z : Bool). eqb y m && z) t q ∙ sym (cond-false _ _ e)
+    pub told-own : {r : Bool} → met ≢ 0 → r ≡ leavesOutIn values lows highs k (suc (met - 1)) → r ≡ barsIn values targets lows highs chosen own m x k
+    told-own n q = held-against (q ∙ ap (leavesOutIn values lows highs k) (one-back met n))
 
-module _ (values starts marks targets lows highs chosen : List ℕ) (m x k : ℕ) {held : ℕ} (is : held ≡ cond (eqb k m) x (getD chosen k 0)) where
+  module _ (e : own ≡ false) where
+    pub told-named : {r : Bool} → target ≡ m → r ≡ leavesOutIn values lows highs k x → r ≡ barsIn values targets lows highs chosen own m x k
+    told-named n q = q ∙ sym (cond-false _ _ e ∙ ap (λ (b : Bool). b && leavesOutIn values lows highs k x) (eq-eqb (getD targets k 0) m (sym t ∙ n)))
+
+    pub told-another : target ≢ m → false ≡ barsIn values targets lows highs chosen own m x k
+    told-another n =
+        sym (cond-false _ _ e ∙ ap (λ (b : Bool). b && leavesOutIn values lows highs k x) (ne-eqb (getD targets k 0) m (λ q. n (t ∙ q))))
+
+-- the needs of the version that a module holds while module m is tried at place i
+module _ (values starts marks targets lows highs chosen : List ℕ) (m i k : ℕ) {other : ℕ} (is-other : other ≡ getD chosen k 0) where
   abbrev test : ℕ → Bool
-  test = barsIn values targets lows highs chosen (eqb k m) m x
+  test = barsIn values targets lows highs chosen (eqb k m) m (suc i)
 
-  pub told-absent : held ≡ 0 → noNumber ≡ scanIn values starts marks targets lows highs chosen m x k
-  told-absent e = ap (scanState starts marks test) (sym e ∙ is)
+  holds : {x : ℕ} → cond (eqb k m) (suc i) (getD chosen k 0) ≡ x →
+      scanIn values starts marks targets lows highs chosen m (suc i) k ≡ scanState starts marks test x
+  holds e = ap (scanState starts marks test) e
 
-  pub told-scan : {first mark count r : ℕ} → 0 < held → first ≡ getD starts (held - 1) 0 → mark ≡ getD marks (held - 1) 0 →
-      count ≡ mark - 1 → r ≡ firstIn test first count → r ≡ scanIn values starts marks targets lows highs chosen m x k
-  told-scan h p q n e =
-      e ∙ ap₂ (firstIn test) p (n ∙ ap (λ (y : ℕ). y - 1) q) ∙ sym (state-scan starts marks test held h) ∙
-      ap (scanState starts marks test) is
+  pub told-nothing : (not (eqb k m) && eqb other 0) ≡ true → noNumber ≡ scanIn values starts marks targets lows highs chosen m (suc i) k
+  told-nothing e =
+      let another = not-true (eqb k m) (and-fst _ _ e) in
+      let none = eqb-true other 0 (and-snd (not (eqb k m)) _ e) in
+      sym (holds (cond-false _ _ another ∙ sym is-other ∙ none))
+
+  -- where it is another module's, that has a version chosen
+  pub told-some : (not (eqb k m) && eqb other 0) ≡ false → eqb k m ≡ false → other ≢ 0
+  told-some e n z = not-both (rw (n, z)) e
+
+  pub told-scan : (not (eqb k m) && eqb other 0) ≡ false → {held : ℕ} → ((eqb k m ≡ true) × (held ≡ i)) ⊎ ((eqb k m ≡ false) × (held ≡ other - 1)) →
+      {needs : Span} → needs ≡ needsIn starts marks held → {r : ℕ} → r ≡ firstIn test (needs .first) (needs .count) →
+      r ≡ scanIn values starts marks targets lows highs chosen m (suc i) k
+  told-scan e {held} h p q = q ∙ ap (λ (n : Span). firstIn test (n .first) (n .count)) p ∙ sym (holds (state h))
+    where
+      state : ((eqb k m ≡ true) × (held ≡ i)) ⊎ ((eqb k m ≡ false) × (held ≡ other - 1)) → cond (eqb k m) (suc i) (getD chosen k 0) ≡ suc held
+      state (inl (n, z)) = cond-true _ _ n ∙ ap suc (sym z)
+      state (inr (n, z)) = cond-false _ _ n ∙ sym is-other ∙ sym (one-back other (told-some e n)) ∙ ap suc (sym z)
 
 -- what a whole scan finds is what the scan from here to the end finds
 pub record Left (scan : ℕ → ℕ → ℕ) (whole end here : ℕ) : Type 0 where

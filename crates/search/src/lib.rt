@@ -1,4 +1,4 @@
-// The backtracking search over the tables of a catalogue: which need bars a trial, what is wanted next, and the record of choices.
+// The backtracking search over the tables of a catalogue: a selection, or the lines of a sheet in the work area.
 pub mod choices;
 pub mod find;
 pub mod noting;

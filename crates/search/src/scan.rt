@@ -6,32 +6,29 @@ use frames::numbers::ModuleNo;
 use frames::numbers::Place;
 use frames::numbers::Version;
 use store::access;
-use store::tables;
+use store::lookup;
 
 // What stands for no need.
 pub const NONE: u32 = 4294967295;
 
-// Need k leaves out a module's state (0: absent, else one more than the place of its version), where a version is chosen.
+// Need k leaves out the version at a place.
 pub fn leaves_out<'a>(
     values: &'a [u32],
     lows: &'a [u32],
     highs: &'a [u32],
     k: u32,
-    state: u32,
+    p: Place,
 ) -> bool
-    ensures { λ r. ⌜ r ≡ leavesOutIn (now (values .entry)) (now (lows .entry)) (now (highs .entry)) k state ⌝ }
+    ensures { λ r. ⌜ r ≡ leavesOutIn (now (values .entry)) (now (lows .entry)) (now (highs .entry)) k (suc (p .0)) ⌝ }
 {
-    if state == 0 {
-        return false;
-    }
     let at = k as usize;
-    let v = Version(access::word_at(values, (state - 1) as usize));
+    let v = lookup::version_at(values, p);
     let low = Version(access::word_at(lows, at));
     let high = Version(access::word_at(highs, at));
     !v.is_within(low, high)
 }
 
-// Need k bars the trial of module m at a state: m's own need against what is chosen, or another's need that names m.
+// Need k bars the trial of module m at a place: m's own need leaves out what is chosen, or another's need that names m leaves out the version tried.
 pub fn bars<'a>(
     values: &'a [u32],
     targets: &'a [u16],
@@ -40,19 +37,24 @@ pub fn bars<'a>(
     chosen: &'a [u16],
     own: bool,
     m: ModuleNo,
-    state: u32,
+    p: Place,
     k: u32,
 ) -> bool
     ensures { λ r. ⌜ r ≡ barsIn (now (values .entry)) (now (targets .entry)) (now (lows .entry)) (now (highs .entry)) (now (chosen .entry))
-        own (m .0) state k ⌝ }
+        own (m .0) (suc (p .0)) k ⌝ }
 {
     let target = access::half_at(targets, k as usize);
     if own {
         let met = access::half_at(chosen, target as usize);
-        return leaves_out(values, lows, highs, k, met as u32);
+        if met == 0 {
+            return false;
+        }
+        return leaves_out(values, lows, highs, k, Place(met - 1));
     }
-    let left = leaves_out(values, lows, highs, k, state);
-    (target == m.0) & left
+    if target == m.0 {
+        return leaves_out(values, lows, highs, k, p);
+    }
+    false
 }
 
 // The first need of a run that bars the trial.
@@ -64,17 +66,17 @@ pub fn first_bar<'a>(
     chosen: &'a [u16],
     own: bool,
     m: ModuleNo,
-    state: u32,
+    p: Place,
     first: u16,
     count: u16,
 ) -> u32
-    ensures { λ r. ⌜ r ≡ firstIn
-        (barsIn (now (values .entry)) (now (targets .entry)) (now (lows .entry)) (now (highs .entry)) (now (chosen .entry)) own (m .0) state) first count ⌝ }
+    ensures { λ r. ⌜ r ≡ firstIn (barsIn (now (values .entry)) (now (targets .entry)) (now (lows .entry)) (now (highs .entry)) (now (chosen .entry))
+        own (m .0) (suc (p .0))) first count ⌝ }
 {
     let mut k = first as u32;
     let end = first as u32 + count as u32;
     while k < end {
-        let hit = bars(values, targets, lows, highs, chosen, own, m, state, k);
+        let hit = bars(values, targets, lows, highs, chosen, own, m, p, k);
         if hit {
             return k;
         }
@@ -83,7 +85,7 @@ pub fn first_bar<'a>(
     NONE
 }
 
-// The first need of module k that bars the trial of module m at a state.
+// The first need of module k that bars the trial of module m at a place.
 pub fn scan_module<'a>(
     values: &'a [u32],
     starts: &'a [u16],
@@ -93,22 +95,19 @@ pub fn scan_module<'a>(
     highs: &'a [u32],
     chosen: &'a [u16],
     m: ModuleNo,
-    state: u32,
+    p: Place,
     k: ModuleNo,
 ) -> u32
     ensures { λ r. ⌜ r ≡ scanIn (now (values .entry)) (now (starts .entry)) (now (marks .entry)) (now (targets .entry)) (now (lows .entry))
-        (now (highs .entry)) (now (chosen .entry)) (m .0) state (k .0) ⌝ }
+        (now (highs .entry)) (now (chosen .entry)) (m .0) (suc (p .0)) (k .0) ⌝ }
 {
     let own = k.0 == m.0;
     let other = access::half_at(chosen, k.0 as usize);
-    let held = if own { state } else { other as u32 };
-    if held == 0 {
+    if !own & (other == 0) {
         return NONE;
     }
-    let at = (held - 1) as usize;
-    let first = access::half_at(starts, at);
-    let mark = access::half_at(marks, at);
-    let count = tables::one_less(mark);
+    let held = if own { p.0 } else { other - 1 };
+    let needs = lookup::needs_of(starts, marks, Place(held));
     first_bar(
         values,
         targets,
@@ -117,9 +116,9 @@ pub fn scan_module<'a>(
         chosen,
         own,
         m,
-        state,
-        first,
-        count,
+        p,
+        needs.first,
+        needs.count,
     )
 }
 
@@ -139,7 +138,6 @@ pub fn barring<'a>(
     ensures { λ r. ⌜ r ≡ overIn (scanIn (now (values .entry)) (now (starts .entry)) (now (marks .entry)) (now (targets .entry)) (now (lows .entry))
         (now (highs .entry)) (now (chosen .entry)) (m .0) (suc (p .0))) 0 modules ⌝ }
 {
-    let state = p.0 as u32 + 1;
     let mut k: u16 = 0;
     while k < modules {
         let hit = scan_module(
@@ -151,7 +149,7 @@ pub fn barring<'a>(
             highs,
             chosen,
             m,
-            state,
+            p,
             ModuleNo(k),
         );
         if hit != NONE {

@@ -3,8 +3,9 @@ ghost use mathlib.Core.Path.{_≡_};
 ghost use Rattle.search.specs.Wanted.{noneWanted, betterIn, foldIn, wantedAt, wantedIn};
 use crate::scan::NONE;
 use frames::numbers::ModuleNo;
+use frames::numbers::Place;
 use store::access;
-use store::tables;
+use store::lookup;
 
 // What stands for no module.
 pub const NO_MODULE: u16 = 65535;
@@ -76,11 +77,8 @@ pub fn wanted_of_module<'a>(
     if state == 0 {
         return b;
     }
-    let at = (state - 1) as usize;
-    let first = access::half_at(starts, at);
-    let mark = access::half_at(marks, at);
-    let count = tables::one_less(mark);
-    wanted_of_version(targets, chosen, first, count, b)
+    let needs = lookup::needs_of(starts, marks, Place(state - 1));
+    wanted_of_version(targets, chosen, needs.first, needs.count, b)
 }
 
 // What is wanted after the needs of every module's chosen version.

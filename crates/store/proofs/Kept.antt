@@ -4,7 +4,7 @@ use mathlib.Core.Path.{_≡_, refl, sym, _∙_, ap, subst}
 use mathlib.Core.Logic.{_⊎_, inl, inr, ⊎-elim, _≢_}
 use mathlib.Core.Bool.{Bool, true, false, _&&_, _||_, not, cond}
 use mathlib.Core.List.{List, [], _∷_, _++_, append-nil}
-use Prim.Native.Nat.{ℕ, zero, suc, _+_, _*_, _-_, _≤_, _<_}
+use Prim.Native.Nat.{ℕ, suc, _+_, _*_, _-_, _≤_, _<_}
 use native.Mathlib.Omega.{arith}
 use native.Mathlib.Numerals.{add-one}
 use native.Mathlib.Nat.{not-suc-le-zero}
@@ -12,13 +12,14 @@ use lib.Dec.{ltb, leb, eqb}
 use lib.ListN.{length, getD, set, replicate, length-set, length-replicate, List·getD-append}
 use lib.Seq.{getD-set-same, getD-set-other, getD-append-seam}
 use borrow.Author.Tests.{ltb-true, ltb-false, leb-true, eqb-true, eqb-false, eq-eqb, ne-eqb, lt-ltb, le-ltb, not-true}
-use Rattle.rules.specs.Lists.{isIn, keep, upFrom, below}
+use Rattle.rules.specs.Lists.{isIn, keep, upFrom}
 use Rattle.rules.specs.Lines.{unless}
 use Rattle.rules.specs.Frames.{byteAt, kindOf, versionAt, catalogues, digitsFor}
 use Rattle.rules.specs.Catalogue.{Version, Need, Catalogue, catalogue, noCatalogue, noVersion, noNeed, needAt, isOf, placesOf}
 use Rattle.rules.specs.Catalogue.{needsOf, lastVersion, limits, Reading, reading, catalogueReader, isEnd, versionIn, withFrame}
-use Rattle.rules.proofs.Lists.{and-fst, and-snd, or-cases, same-or-not, longer, length-last, length-upFrom, upFrom-last}
+use Rattle.rules.proofs.Lists.{and-fst, and-snd, or-cases, same-or-not, longer, length-last, length-upFrom, upFrom-last, keep-more}
 use Rattle.rules.proofs.Readers.{orElse-none, unless-none}
+use Rattle.rules.proofs.Reading.{moreVersions, places-grown}
 use Rattle.frames.proofs.InLine.{getD-zeros, longer-other}
 use Rattle.store.specs.declared.frame.Fields.{Fields}
 use Rattle.store.specs.declared.frame.State.{State}
@@ -67,27 +68,6 @@ set-next {A} d p ns xs x h old =
 -- so numbers from `i` up, with the next one behind them, are one more
 upFrom-more : (xs : List ℕ) (i n at : ℕ) → xs ≡ upFrom i n → i + n ≡ at → longer xs at ≡ upFrom i (suc n)
 upFrom-more xs i n at p q = rw (p, ← q) (sym (upFrom-last i n))
-
--- LISTS KEPT BY A TEST: of one number more, by a test that is the same for the others
-keep-more-from : (f g : ℕ → Bool) (i n : ℕ) → ((k : ℕ) → k < i + n → g k ≡ f k) →
-    keep g (upFrom i (suc n)) ≡ keep f (upFrom i n) ++ cond (g (i + n)) ((i + n) ∷ []) []
-unfolding keep upFrom
-keep-more-from f g i zero h = let e : i + 0 ≡ i = omega arith in rw e
-keep-more-from f g i (suc n) h =
-    let e : i + suc n ≡ suc i + n = omega arith in
-    rw (h i (omega arith), e, keep-more-from f g (suc i) n (λ k l. h k (omega arith))) (go (f i))
-  where
-    new : List ℕ
-    new = cond (g (suc i + n)) ((suc i + n) ∷ []) []
-
-    go : (b : Bool) → cond b (i ∷ (keep f (upFrom (suc i) n) ++ new)) (keep f (upFrom (suc i) n) ++ new) ≡
-        cond b (i ∷ keep f (upFrom (suc i) n)) (keep f (upFrom (suc i) n)) ++ new
-    go true = refl
-    go false = refl
-
--- the same from 0 on
-keep-more : (f g : ℕ → Bool) (n : ℕ) → ((k : ℕ) → k < n → g k ≡ f k) → keep g (below (suc n)) ≡ keep f (below n) ++ cond (g n) (n ∷ []) []
-keep-more f g n h = let e : 0 + n ≡ n = omega arith in rw e at (keep-more-from f g 0 n (λ k l. h k (omega arith)))
 
 -- TIDY TABLES: their sizes are the code's
 pub record Sizes (t : Tables) : Type 0 where
@@ -220,10 +200,7 @@ kept-sizes {t} s z n f h =
       highs = kept-length (isNeed f) _ _ (t .highs) ∙ h .highs;
     }
 
--- A VERSION MORE: the catalogue with it, the fields of its frame, and the tables after that frame
-abbrev moreVersions : Catalogue → Version → Catalogue
-moreVersions c v = catalogue (c .modules) (longer (c .versions) v) (c .needs)
-
+-- A VERSION MORE: the fields of its frame, and the tables after that frame
 abbrev versionFields : Version → Fields
 versionFields v = record { kind = 2; owner = moduleNo (v .owner); low = version (v .value); topped = false; high = version 0 }
 
@@ -233,25 +210,6 @@ withVersion t c v = kept t (stateOf (reading 1 c)) (lastOf c) (length (placesOf 
 -- the new version is the last
 last-grown : (c : Catalogue) (v : Version) → lastVersion (moreVersions c v) ≡ v
 last-grown c v = rw (before-last (c .versions) v) (getD-append-seam (c .versions) v [] noVersion)
-
--- and one more of its module's
-places-grown : (c : Catalogue) (v : Version) (m : ℕ) →
-    placesOf (moreVersions c v) m ≡ placesOf c m ++ cond (eqb (v .owner) m) (length (c .versions) ∷ []) []
-unfolding isOf
-places-grown c v m =
-    rw (length-last (c .versions) v) (keep-more (isOf c m) (isOf (moreVersions c v) m) (length (c .versions)) others ∙
-    ap (λ (b : Bool). placesOf c m ++ cond b (length (c .versions) ∷ []) []) new)
-  where
-    new : isOf (moreVersions c v) m (length (c .versions)) ≡ eqb (v .owner) m
-    new = rw (getD-append-seam (c .versions) v [] noVersion, lt-ltb _ _ more)
-      where
-        more : length (c .versions) < length (longer (c .versions) v)
-        more = omega (arith, length-last (c .versions) v)
-
-    others : (k : ℕ) → k < length (c .versions) → isOf (moreVersions c v) m k ≡ isOf c m k
-    others k h =
-        let g : k < length (longer (c .versions) v) = omega (arith, length-last (c .versions) v) in
-        rw (lt-ltb _ _ g, lt-ltb _ _ h, List·getD-append (c .versions) (v ∷ []) noVersion k h)
 
 -- a module's versions stand from a place on to the last
 abbrev Follows : Catalogue → (owner first : ℕ) → Type 0

@@ -55,7 +55,7 @@ pub struct Last {
 }
 
 // 5, 6 or 7: the first of three tests that fails; 0 where none does.
-fn checks(order: bool, content: bool, room: bool) -> u8
+pub fn checks(order: bool, content: bool, room: bool) -> u8
     ensures { λ r. ⌜ r ≡ checks order content room ⌝ }
 {
     if !order {

@@ -1,75 +1,41 @@
--- Each way out is the case of its tests. Assumes nothing.
-use mathlib.Core.Path.{sym, _∙_, ap}
-use borrow.Author.Needs.{needs}
-use borrow.Author.Tests.{eq-eqb, ne-eqb}
+-- The fault is told by what the calls return. Assumes nothing.
+use mathlib.Core.Path.{_≡_}
 use Prim.Native.Nat.{ℕ}
+use lib.Dec.{eqb}
 use lib.ListN.{getD}
+use borrow.Author.Needs.{needs}
+use Rattle.rules.specs.Lines.{unless}
+use Rattle.frames.specs.Faults.{endFault}
+use Rattle.frames.specs.declared.faults.Fault.{Fault}
+use Rattle.catalogue.specs.declared.reading.Lines.{Lines}
 use Rattle.catalogue.specs.Reading.{withFault, finished}
 use Rattle.catalogue.proofs.reading.finish.Statement.{statement}
 use Rattle.catalogue.proofs.reading.finish.Tie as tie
 
-returns : tie.Need-returns
+-- from how many versions the root has to the reading with its fault told
+finish-told : (l : Lines) {roots last : ℕ} {told : Fault} {r : Lines} → roots ≡ getD (l .tables .counts) 0 0 → last ≡ unless (eqb roots 1) 8 →
+    told ≡ endFault (l .number) (l .line) (eqb (l .state .stands) 2) last → r ≡ withFault l told → r ≡ finished l
 unfolding finished
-returns c = rw (ne-eqb (c .before .before .args .l .number) 0 (c .if1 .taken))
-
-with-fault-requires : tie.Need-with-fault-requires
-with-fault-requires c κs = search needs
-
-returns-2 : tie.Need-returns-2
-unfolding finished
-returns-2 c =
-    let given = c .before .before .before .before .before .before .args in
-    rw (
-      eq-eqb (given .l .number) 0 (c .before .before .before .before .if1 .left),
-      ne-eqb (given .l .state .stands) 2 (c .before .if2 .taken),
-    ) (c .with-fault .ensures)
+finish-told l e p q z = rw (z, q, p, e)
 
 half-at-requires : tie.Need-half-at-requires
 half-at-requires c κs = search needs
 
-line-before-requires : tie.Need-line-before-requires
-line-before-requires c κs = search needs
+unless-requires : tie.Need-unless-requires
+unless-requires c κs = search needs
 
-with-fault-requires-2 : tie.Need-with-fault-requires-2
-with-fault-requires-2 c κs = search needs
+end-fault-requires : tie.Need-end-fault-requires
+end-fault-requires c κs = search needs
 
-returns-3 : tie.Need-returns-3
-unfolding finished
-returns-3 c =
-    let l = c .before .before .before .before .before .before .before .before .before .before .before .before .before .args .l in
-    let roots = c .before .before .before .half-at .ensures in
-    rw (
-      eq-eqb (l .number) 0 (c .before .before .before .before .before .before .before .before .before .before .before .if1 .left),
-      eq-eqb (l .state .stands) 2 (c .before .before .before .before .before .before .before .before .if2 .left),
-      ne-eqb (getD (l .tables .counts) 0 0) 1 (λ e. c .before .before .if3 .taken (roots ∙ e)),
-    )
-    (c .with-fault2 .ensures ∙ ap (withFault l 8) (c .before .line-before .ensures))
+with-fault-requires : tie.Need-with-fault-requires
+with-fault-requires c κs = search needs
 
-with-fault-requires-3 : tie.Need-with-fault-requires-3
-with-fault-requires-3 c κs = search needs
-
-returns-4 : tie.Need-returns-4
-unfolding finished
-returns-4 c =
-    let l = c .before .before .before .before .before .before .before .before .before .before .before .before .args .l in
-    let roots = c .before .before .half-at .ensures in
-    rw (
-      eq-eqb (l .number) 0 (c .before .before .before .before .before .before .before .before .before .before .if1 .left),
-      eq-eqb (l .state .stands) 2 (c .before .before .before .before .before .before .before .if2 .left),
-      eq-eqb (getD (l .tables .counts) 0 0) 1 (sym roots ∙ c .before .if3 .left),
-    )
-    (c .with-fault3 .ensures)
+returns : tie.Need-returns
+returns c =
+    finish-told (c .before .before .before .before .before .before .before .before .before .before .args .l)
+    (c .before .before .before .before .half-at .ensures) (c .before .before .before .unless .ensures) (c .before .end-fault .ensures) (c .with-fault .ensures)
 
 pub finish-spec : {M : Type 1} → statement M
 finish-spec =
     tie.close
-    (tie.spec
-    returns
-    with-fault-requires
-    returns-2
-    half-at-requires
-    line-before-requires
-    with-fault-requires-2
-    returns-3
-    with-fault-requires-3
-    returns-4)
+    (tie.spec half-at-requires unless-requires end-fault-requires with-fault-requires returns)

@@ -8,7 +8,10 @@ use Prim.Native.Nat.{ℕ, _+_, _*_, _-_, _%_, _≤_, _<_}
 use native.Mathlib.Omega.{arith}
 use lib.ListN.{length}
 use borrow.Author.Needs.{needs}
+use Rattle.rules.specs.Frames.{byteAt, catalogues}
 use Rattle.frames.specs.Digits.{pairAt}
+use Rattle.frames.specs.Faults.{lineFaultOf}
+use Rattle.frames.specs.Kinds.{rowFor}
 use Rattle.frames.specs.declared.digits.Pair.the-variants.{Byte, LineFeed}
 use Rattle.frames.proofs.Lines.{byte-stands}
 use Rattle.frames.proofs.InLine.{InLine, line-start, line-byte, line-feed, line-size}
@@ -18,7 +21,7 @@ use Rattle.store.specs.declared.frame.State.{State}
 use Rattle.store.specs.declared.frame.Last.{Last}
 use Rattle.store.proofs.Kept.{Sizes}
 use Rattle.catalogue.proofs.Steps.{AtLine, Got, tablesFrom, found, stopped, at-start, end-stops, wrong-stops, line-stops, line-kept}
-use Rattle.catalogue.proofs.Steps.{found-told, after-told, tables-told}
+use Rattle.catalogue.proofs.Steps.{line-told, after-told, tables-told}
 use Rattle.catalogue.proofs.reading.read_lines.Statement.{statement}
 use Rattle.catalogue.proofs.reading.read_lines.Tie as tie
 
@@ -128,7 +131,7 @@ AfterJudged = tie.After-line-fault Inv-digits μ-digits Inv-lines μ-lines
 module _ (c : AfterJudged) where
   -- behind the calls before it: half_at, last_of, fields_of; and then the line feed, its turn of the loop, and the start of its line
   abbrev count-of-judged : tie.After-half-at Inv-digits μ-digits Inv-lines μ-lines
-  count-of-judged = c .before
+  count-of-judged = c .before .before
 
   abbrev last-of-judged : tie.After-last-of Inv-digits μ-digits Inv-lines μ-lines
   last-of-judged = count-of-judged .before .before .before .before
@@ -157,13 +160,12 @@ module _ (c : AfterJudged) where
         count-is = count-of-judged .half-at .ensures;
       }
 
-  abbrev found-here : ℕ
-  found-here =
-      found (digits-of-judged .digits .bytes-read) (digits-of-judged .digits .bytes) (digits-of-judged .digits .sum)
-      (line-of-judged .lines .s) (tables line-of-judged)
-
-  same-fault : c .line-fault .result ≡ found-here
-  same-fault = c .line-fault .ensures ∙ found-told got _ _
+  -- so the fault that the code finds is the line's, by what the reader finds of its frame
+  same-fault :
+      c .line-fault .result ≡
+      lineFaultOf (digits-of-judged .digits .bytes) (digits-of-judged .digits .sum) (rowFor catalogues (byteAt (digits-of-judged .digits .bytes-read) 0))
+      (found (digits-of-judged .digits .bytes-read) (line-of-judged .lines .s) (tables line-of-judged))
+  same-fault = line-told got _ _ (c .before .frame-fault .ensures) (c .line-fault .ensures)
 
   -- a module has 16 versions at most, and a version 16 needs
   count-fits : count-of-judged .half-at .result ≤ 16
@@ -299,9 +301,12 @@ cast-half-at c = search needs
 half-at-requires : tie.Need-half-at-requires Inv-digits μ-digits Inv-lines μ-lines
 half-at-requires c κs = search needs
 
+frame-fault-requires : tie.Need-frame-fault-requires Inv-digits μ-digits Inv-lines μ-lines
+frame-fault-requires c κs = search needs
+
 line-fault-requires : tie.Need-line-fault-requires Inv-digits μ-digits Inv-lines μ-lines
 line-fault-requires c κs =
-    let d = digits-of-feed (c .before .before .before .before .before .before .before .before .before .before) in
+    let d = digits-of-feed (c .before .before .before .before .before .before .before .before .before .before .before) in
     omega (arith, two-each d, in-line d .within, text-fits (line-of-digits d))
 
 -- A GOOD LINE is kept, and leads to the start of the next
@@ -357,7 +362,7 @@ add-at-2 : tie.Need-add-at-2 Inv-digits μ-digits Inv-lines μ-lines
 add-at-2 c = omega (arith, feed-within (feed-of-judged (judged-of-state c)), text-fits (line-of-judged (judged-of-state c)))
 
 add-line : tie.Need-add-line Inv-digits μ-digits Inv-lines μ-lines
-add-line c = let l = line-of-judged (judged-of-state c) in omega (arith, at-line l .counted, at-line l .within, text-fits l)
+add-line c = let l = line-of-judged (judged-of-state c) in omega (arith, at-line l .count .counted, at-line l .count .within, text-fits l)
 
 lines-less : tie.Need-lines-less Inv-digits μ-digits Inv-lines μ-lines
 lines-less c = omega (arith, feed-within (feed-of-judged (judged-of-state c)), in-line (digits-of-judged (judged-of-state c)) .passed)
@@ -373,8 +378,7 @@ lines-again c =
     let need-kept = need-of-state c .keep-need .ensures in
     let same-tables = tables-told (got judged) version-kept module-kept need-kept in
     let same-state = c .after .ensures ∙ after-told (got judged) in
-    let no-fault = sym (same-fault judged) ∙ good in
-    let next = line-kept (at-line l) (in-line d) (feed-there (feed-of-judged judged)) no-fault in (
+    let next = line-kept (at-line l) (in-line d) (feed-there (feed-of-judged judged)) (same-fault judged) good in (
       good,
       subst₂ (λ (v : State) (t : Tables). AtLine (text l) (d .digits .at + 1) (l .lines .line + 1) v t) (sym same-state) (sym same-tables) next,
     )
@@ -396,8 +400,7 @@ returns-3 c =
     let judged = c .before in
     let d = digits-of-judged judged in
     let l = line-of-judged judged in
-    let stops = line-stops (at-line l) (in-line d) (feed-there (feed-of-judged judged)) (λ e. c .if1 .taken (same-fault judged ∙ e)) in
-    subst (λ (n : ℕ). LinesRead (text l) (stopped (at-line l) n)) (sym (same-fault judged)) stops
+    line-stops (at-line l) (in-line d) (feed-there (feed-of-judged judged)) (same-fault judged) (c .if1 .taken)
 
 pub read-lines-spec : {M : Type 1} → statement M
 read-lines-spec =
@@ -430,6 +433,7 @@ read-lines-spec =
     slice-aggregate-half-at
     cast-half-at
     half-at-requires
+    frame-fault-requires
     line-fault-requires
     slice-aggregate-keep-version
     slice-aggregate-keep-version-2

@@ -1,6 +1,7 @@
--- An own need is held against what is chosen, another's against the state tried. Assumes nothing.
+-- `search::scan::bars` meets its contract: an own need is held against what is chosen, another's against the version tried.
+use Prim.Native.Nat.{suc}
 use borrow.Author.Needs.{needs}
-use Rattle.search.proofs.Scans.{told-own, told-other}
+use Rattle.search.proofs.Scans.{told-absent, told-own, told-named, told-another}
 use Rattle.search.proofs.scan.bars.Statement.{statement}
 use Rattle.search.proofs.scan.bars.Tie as tie
 
@@ -13,28 +14,55 @@ cast-half-at c = search needs
 half-at-requires-2 : tie.Need-half-at-requires-2
 half-at-requires-2 c κs = search needs
 
-cast-leaves-out : tie.Need-cast-leaves-out
-cast-leaves-out c = search needs
+returns : tie.Need-returns
+returns c =
+    let at-if1 = c .before .before in
+    let at-half-at = at-if1 .before in
+    let at-entry = at-half-at .before .before .before .before .before .before in
+    let given = at-entry .args in
+    told-absent (given .values .now) (given .targets .now) (given .lows .now) (given .highs .now) (given .chosen .now) (given .m .0) (suc (given .p .0))
+    (given .k)
+    (at-half-at .half-at .ensures) (at-if1 .if1 .taken) (c .before .half-at2 .ensures) (c .if2 .taken)
+
+sub-t16 : tie.Need-sub-t16
+sub-t16 c = search needs
 
 leaves-out-requires : tie.Need-leaves-out-requires
 leaves-out-requires c κs = search needs
 
-returns : tie.Need-returns
-returns c =
-    let given = c .before .before .before .before .before .before .before .before .before .args in
-    told-own (given .values .now) (given .lows .now) (given .highs .now) (given .k) (given .state)
-    (given .targets .now) (given .chosen .now) (given .m .0)
-    (c .before .before .before .half-at .ensures) (c .before .before .if1 .taken) (c .before .half-at2 .ensures) (c .leaves-out .ensures)
+returns-2 : tie.Need-returns-2
+returns-2 c =
+    let at-half-at2 = c .before .before in
+    let at-if1 = at-half-at2 .before in
+    let at-half-at = at-if1 .before in
+    let at-entry = at-half-at .before .before .before .before .before .before in
+    let given = at-entry .args in
+    told-own (given .values .now) (given .targets .now) (given .lows .now) (given .highs .now) (given .chosen .now) (given .m .0) (suc (given .p .0))
+    (given .k)
+    (at-half-at .half-at .ensures) (at-if1 .if1 .taken) (at-half-at2 .half-at2 .ensures) (c .before .if2 .left) (c .leaves-out .ensures)
 
 leaves-out-requires-2 : tie.Need-leaves-out-requires-2
 leaves-out-requires-2 c κs = search needs
 
-returns-2 : tie.Need-returns-2
-returns-2 c =
-    let given = c .before .before .before .before .before .before .before .before .before .args in
-    told-other (given .values .now) (given .lows .now) (given .highs .now) (given .k) (given .state)
-    (given .targets .now) (given .chosen .now) (given .m .0)
-    (c .before .before .before .half-at .ensures) (c .before .before .if1 .left) (c .before .leaves-out2 .ensures)
+returns-3 : tie.Need-returns-3
+returns-3 c =
+    let at-if1 = c .before .before .before in
+    let at-half-at = at-if1 .before in
+    let at-entry = at-half-at .before .before .before .before .before .before in
+    let given = at-entry .args in
+    told-named (given .values .now) (given .targets .now) (given .lows .now) (given .highs .now) (given .chosen .now) (given .m .0) (suc (given .p .0))
+    (given .k)
+    (at-half-at .half-at .ensures) (at-if1 .if1 .left) (c .before .if3 .taken) (c .leaves-out2 .ensures)
+
+returns-4 : tie.Need-returns-4
+returns-4 c =
+    let at-if1 = c .before .before in
+    let at-half-at = at-if1 .before in
+    let at-entry = at-half-at .before .before .before .before .before .before in
+    let given = at-entry .args in
+    told-another (given .values .now) (given .targets .now) (given .lows .now) (given .highs .now) (given .chosen .now) (given .m .0) (suc (given .p .0))
+    (given .k)
+    (at-half-at .half-at .ensures) (at-if1 .if1 .left) (c .if3 .left)
 
 pub bars-spec : {M : Type 1} → statement M
 bars-spec =
@@ -43,8 +71,10 @@ bars-spec =
     half-at-requires
     cast-half-at
     half-at-requires-2
-    cast-leaves-out
-    leaves-out-requires
     returns
+    sub-t16
+    leaves-out-requires
+    returns-2
     leaves-out-requires-2
-    returns-2)
+    returns-3
+    returns-4)

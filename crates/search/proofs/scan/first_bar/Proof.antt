@@ -1,17 +1,17 @@
 -- The scan from `k` on finds what the whole scan finds. Assumes nothing.
 use borrow.Author.Needs.{needs}
-use Prim.Native.Nat.{_+_, _-_}
+use Prim.Native.Nat.{suc, _+_, _-_}
 use Rattle.search.specs.Scan.{barsIn, firstIn}
 use Rattle.search.proofs.Scans.{Left, first-start, first-hit, first-passed, first-done}
 use Rattle.search.proofs.scan.first_bar.Statement.{statement}
 use Rattle.search.proofs.scan.first_bar.Tie as tie
 
 abbrev Inv-loop : tie.InvT-loop
-Inv-loop values targets lows highs chosen own m state first count k₀ end k =
-    let f = barsIn values targets lows highs chosen own (m .0) state in Left (firstIn f) (firstIn f first count) (first + count) k
+Inv-loop values targets lows highs chosen own m p first count k₀ end k =
+    let f = barsIn values targets lows highs chosen own (m .0) (suc (p .0)) in Left (firstIn f) (firstIn f first count) (first + count) k
 
 abbrev μ-loop : tie.MeasureT-loop
-μ-loop values targets lows highs chosen own m state first count k₀ end k = (first + count) - k
+μ-loop values targets lows highs chosen own m p first count k₀ end k = (first + count) - k
 
 add-end : tie.Need-add-end Inv-loop μ-loop
 add-end c = search needs

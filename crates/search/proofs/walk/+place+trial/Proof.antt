@@ -87,7 +87,8 @@ place-Inv-loop values starts marks firsts counts targets lows highs work₀ modu
     let v = movesIn values starts marks firsts counts targets lows highs modules in
     let go = walkIn (unsettled - 1) v allowance in
     Going v allowance go w (versions .first)
-    (eachWalk v allowance go w came₀ (falling (versions .first) untried₀) record₀ (sheet work₀ sheet₀)) (length work₀) untried₀ work «record» untried came sheet₁
+    (eachWalk v allowance go w came₀ (falling (versions .first) untried₀) record₀ (sheet work₀ sheet₀)) (length work₀) untried₀ work «record»
+    untried came sheet₁
 
 abbrev place-μ-loop : place-lts.MeasureT-loop
 place-μ-loop values starts marks firsts counts targets lows highs work₀ modules allowance unsettled record₀ w m versions untried₀ came₀ sheet₀ work

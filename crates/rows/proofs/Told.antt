@@ -1,0 +1,62 @@
+-- What a need line cites and what the tests of a row answer, put together from what the calls tell: each premise is what one call ensures.
+-- Assumes nothing.
+use mathlib.Core.Path.{_≡_, sym, _∙_, ap, ap₂}
+use mathlib.Core.Bool.{Bool, true, false, _&&_, _||_, not, and-true, and-false}
+use mathlib.Core.List.{List}
+use Prim.Native.Nat.{ℕ}
+use borrow.Author.Tests.{not-true, not-false}
+use lib.Bits.{bitAnd, bitOr}
+use lib.Dec.{eqb}
+use lib.ListN.{getD}
+use Rattle.rules.specs.Lists.{all, below}
+use Rattle.store.specs.Frame.{moduleNo, place}
+use Rattle.store.specs.Tables.{needIn}
+use Rattle.store.specs.declared.lookup.Need.{Need}
+use Rattle.rows.specs.Bits.{hasBit, bitsOf, marks, allBits}
+use Rattle.rows.specs.Area.{wordAt, withRow, absentWord}
+use Rattle.rows.specs.Needed.{citedIn, needWord}
+use Rattle.rows.specs.Derived.{resolvedWord, isFullIn, refutesIn}
+use Rattle.rows.specs.declared.needed.Cited.{Cited}
+
+abbrev citedOf : (needy place : ℕ) → Need → Cited
+citedOf n p z = record { needy = moduleNo n; place = place p; target = z .target; low = z .low; high = z .high }
+
+pub cited-told : (os ys ts ls hs : List ℕ) (k : ℕ) {p n : ℕ} {z : Need} → p ≡ getD ys k 0 → n ≡ getD os p 0 → z ≡ needIn ts ls hs k →
+    citedOf n p z ≡ citedIn os ys ts ls hs k
+cited-told os ys ts ls hs k e f g = rw (f, e, g)
+
+-- the area with the row of a need that is the need cited
+pub row-told : (l : List ℕ) (r : ℕ) (vs fs ns : List ℕ) (ms : ℕ) {area : List ℕ} {n cited : Cited} → n ≡ cited →
+    area ≡ withRow l r (needWord vs fs ns ms n) → area ≡ withRow l r (needWord vs fs ns ms cited)
+row-told l r vs fs ns ms e f = f ∙ ap (λ (z : Cited). withRow l r (needWord vs fs ns ms z)) e
+
+pub absent-told : (m x y : ℕ) {j b : ℕ} → j ≡ absentWord → b ≡ bitsOf (marks m true false) 0 32 →
+    bitOr (bitAnd x y) (bitAnd (bitOr x y) b) ≡ resolvedWord m x y j
+absent-told m x y e f = rw (e, f)
+
+pub resolved-told : (m j : ℕ) {x y a b r : ℕ} → x ≡ a → y ≡ b → r ≡ resolvedWord m x y j → r ≡ resolvedWord m a b j
+resolved-told m j e f g = g ∙ ap₂ (λ (u v : ℕ). resolvedWord m u v j) e f
+
+pub full-told : (l : List ℕ) (r : ℕ) (ns : List ℕ) (m : ℕ) {x n all w : ℕ} {b : Bool} → x ≡ wordAt l r absentWord → b ≡ hasBit x m → n ≡ getD ns m 0 →
+    all ≡ allBits n → w ≡ wordAt l r m → (b && eqb w all) ≡ isFullIn l r ns m
+full-told l r ns m e f g h i = rw (f, e, i, h, g)
+
+-- what the test asks of each module: it is the root, or its set is full
+abbrev pub rootOrFull : (area : List ℕ) → (row : ℕ) → (counts : List ℕ) → (owner : ℕ) → Bool
+rootOrFull l r ns m = eqb m 0 || isFullIn l r ns m
+
+module _ (l : List ℕ) (r : ℕ) (ns : List ℕ) (m : ℕ) {b : Bool} (e : b ≡ isFullIn l r ns m) where
+  pub module-passed : not (eqb m 0 || b) ≡ false → rootOrFull l r ns m ≡ true
+  module-passed h = rw (← e) (not-false (eqb m 0 || b) h)
+
+  pub module-failed : not (eqb m 0 || b) ≡ true → rootOrFull l r ns m ≡ false
+  module-failed h = rw (← e) (not-true (eqb m 0 || b) h)
+
+module _ (l : List ℕ) (r : ℕ) (ns : List ℕ) (ms : ℕ) where
+  pub failed-told : all (rootOrFull l r ns) (below ms) ≡ false → false ≡ refutesIn l r ns ms
+  unfolding refutesIn
+  failed-told h = rw h (sym (and-false (hasBit (wordAt l r 0) 0)))
+
+  pub passed-told : {x : ℕ} {b : Bool} → x ≡ wordAt l r 0 → b ≡ hasBit x 0 → all (rootOrFull l r ns) (below ms) ≡ true → b ≡ refutesIn l r ns ms
+  unfolding refutesIn
+  passed-told e f h = rw (h, f, e) (sym (and-true (hasBit (wordAt l r 0) 0)))

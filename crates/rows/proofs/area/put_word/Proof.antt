@@ -1,0 +1,75 @@
+-- The four bytes are stored one behind the other. Assumes nothing.
+use borrow.Author.Needs.{needs}
+use Rattle.rows.specs.Area.{withWord}
+use Rattle.rows.proofs.area.put_word.Statement.{statement}
+use Rattle.rows.proofs.area.put_word.Tie as tie
+
+mul-at : tie.Need-mul-at
+mul-at c = search needs
+
+mul-at-2 : tie.Need-mul-at-2
+mul-at-2 c = search needs
+
+add-at : tie.Need-add-at
+add-at c = search needs
+
+cast-put-byte : tie.Need-cast-put-byte
+cast-put-byte c = search needs
+
+put-byte-requires : tie.Need-put-byte-requires
+put-byte-requires c κs = search needs
+
+add-put-byte : tie.Need-add-put-byte
+add-put-byte c = search needs
+
+cast-put-byte-2 : tie.Need-cast-put-byte-2
+cast-put-byte-2 c = search needs
+
+put-byte-requires-2 : tie.Need-put-byte-requires-2
+put-byte-requires-2 c κs = search needs
+
+add-put-byte-2 : tie.Need-add-put-byte-2
+add-put-byte-2 c = search needs
+
+cast-put-byte-3 : tie.Need-cast-put-byte-3
+cast-put-byte-3 c = search needs
+
+put-byte-requires-3 : tie.Need-put-byte-requires-3
+put-byte-requires-3 c κs = search needs
+
+add-put-byte-3 : tie.Need-add-put-byte-3
+add-put-byte-3 c = search needs
+
+cast-put-byte-4 : tie.Need-cast-put-byte-4
+cast-put-byte-4 c = search needs
+
+put-byte-requires-4 : tie.Need-put-byte-requires-4
+put-byte-requires-4 c κs = search needs
+
+same-length : tie.Need-same-length
+same-length c = search needs
+
+returns : tie.Need-returns
+unfolding withWord
+returns c = cc
+
+pub put-word-spec : {M : Type 1} → statement M
+put-word-spec =
+    tie.close
+    (tie.spec
+    mul-at
+    mul-at-2
+    add-at
+    cast-put-byte
+    put-byte-requires
+    add-put-byte
+    cast-put-byte-2
+    put-byte-requires-2
+    add-put-byte-2
+    cast-put-byte-3
+    put-byte-requires-3
+    add-put-byte-3
+    cast-put-byte-4
+    put-byte-requires-4
+    same-length
+    returns)

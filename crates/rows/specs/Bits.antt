@@ -1,0 +1,31 @@
+-- Words as sets of numbers, by their bits. Assumes nothing: these are definitions.
+use mathlib.Core.Bool.{Bool, true, false, cond}
+use Prim.Native.Nat.{ℕ, zero, suc, _+_, _*_, _/_, _%_, min}
+use lib.Dec.{eqb}
+
+-- a bit as a number
+abbrev pub digit : Bool → ℕ
+digit false = 0
+digit true = 1
+
+-- bit `at` of a word; the lowest is bit 0
+unfoldable pub hasBit : (word at : ℕ) → Bool
+hasBit x zero = eqb (x % 2) 1
+hasBit x (suc j) = hasBit (x / 2) j
+
+-- the word whose bit j, for each j below `count`, is a test's answer to first + j; every other bit is 0
+unfoldable pub bitsOf : (ℕ → Bool) → (first count : ℕ) → ℕ
+bitsOf f i zero = 0
+bitsOf f i (suc n) = bitsOf f (suc i) n * 2 + digit (f i)
+
+-- no more bits than a word has
+abbrev pub inWord : (count : ℕ) → ℕ
+inWord n = min n 32
+
+-- the test that has one answer at a number and another everywhere else
+abbrev pub marks : (at : ℕ) → (there elsewhere : Bool) → ℕ → Bool
+marks k a b = λ i. cond (eqb i k) a b
+
+-- the word of all of the first n bits
+abbrev pub allBits : (count : ℕ) → ℕ
+allBits n = bitsOf (marks 0 true true) 0 (inWord n)

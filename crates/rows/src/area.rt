@@ -1,0 +1,54 @@
+// A lent byte area as rows of words: 0 is read past the end, and nothing is written there.
+ghost use mathlib.Core.Path.{_≡_};
+ghost use lib.ListN.{getD, set};
+ghost use Rattle.rows.specs.Area.{wordAt, withWord};
+use store::limits::MODULES;
+
+// The word of a row that says which modules' sets have absent; the words before it are the modules'.
+pub const ABSENT: u16 = MODULES;
+// Words of a row.
+pub const WORDS: u16 = ABSENT + 1;
+// Bytes of a word.
+pub const WORD_BYTES: usize = 4;
+// Bytes of a row.
+pub const ROW_BYTES: usize = WORD_BYTES * WORDS as usize;
+
+fn byte_at(area: &[u8], i: usize) -> u8
+    ensures { λ r. ⌜ r ≡ getD (now (area .entry)) i 0 ⌝ }
+{
+    if i < area.len() {
+        return area[i];
+    }
+    0
+}
+
+fn put_byte(area: &mut [u8], i: usize, x: u8)
+    ensures { λ r. ⌜ now (area .exit) ≡ set (now (area .entry)) i x ⌝ }
+{
+    if i < area.len() {
+        area[i] = x;
+    }
+}
+
+// A word of a row.
+pub fn word_at(area: &[u8], row: u16, word: u16) -> u32
+    ensures { λ r. ⌜ r ≡ wordAt (now (area .entry)) row word ⌝ }
+{
+    let at = ROW_BYTES * row as usize + WORD_BYTES * word as usize;
+    let first = byte_at(area, at) as u32;
+    let second = byte_at(area, at + 1) as u32;
+    let third = byte_at(area, at + 2) as u32;
+    let last = byte_at(area, at + 3) as u32;
+    first * 16777216 + second * 65536 + third * 256 + last
+}
+
+// Writes a word of a row. Every other byte of the area stays.
+pub fn put_word(area: &mut [u8], row: u16, word: u16, x: u32)
+    ensures { λ r. ⌜ now (area .exit) ≡ withWord (now (area .entry)) row word x ⌝ }
+{
+    let at = ROW_BYTES * row as usize + WORD_BYTES * word as usize;
+    put_byte(area, at, (x / 16777216 % 256) as u8);
+    put_byte(area, at + 1, (x / 65536 % 256) as u8);
+    put_byte(area, at + 2, (x / 256 % 256) as u8);
+    put_byte(area, at + 3, (x % 256) as u8);
+}
