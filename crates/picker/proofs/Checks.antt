@@ -91,10 +91,10 @@ accepts-picked t s h w a r u v x y fits owes nine l = go (isFine (textFault limi
     outcome : (o : Option Selection) → OutcomeOwes c o s h a r u v → textFault limits t ≡ fine → checkOf t (take (r .size) v) y ≡ checked fine 0
     outcome none owed e =
         let sheet = owed .0 .written nine in
-        let es = sheet .0 in
+        let es = sheet .entries in
         let is-text : take (r .size) v ≡ sheetText es =
-        ap (take (r .size)) (sheet .1 .3) ∙ take-at (sheetText es) (drop (length (sheetText es)) h) (r .size) (sym (sheet .1 .2)) in
-        let accepts = accepts-exactly limits c (take (r .size) v) carried-limits (read-well t e .1) .1 (es, sheet .1 .0, is-text) in
+        ap (take (r .size)) (sheet .text) ∙ take-at (sheetText es) (drop (length (sheetText es)) h) (r .size) (sym (sheet .size)) in
+        let accepts = accepts-exactly limits c (take (r .size) v) carried-limits (read-well t e .1) .1 (es, sheet .refutes, is-text) in
         long-enough t (take (r .size) v) y l ∙ accepted t (take (r .size) v) e accepts
     outcome (some z) owed e =
         let number = ap (λ (p : Picked). p .number) (owed .0) in

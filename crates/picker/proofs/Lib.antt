@@ -1,4 +1,4 @@
--- Lemmas that the proofs of this crate share.
+-- Lemmas that the proofs of this crate share, and what the ways out of a pick owe.
 pub mod Turns
 pub mod Sheets
 pub mod Numbers

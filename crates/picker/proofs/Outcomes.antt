@@ -8,7 +8,7 @@ use mathlib.Core.Option.{Option, none, some}
 use Prim.Native.Nat.{ℕ, _≤_, _<_}
 use native.Mathlib.Omega.{arith}
 use lib.Dec.{leb}
-use lib.ListN.{length, getD, take}
+use lib.ListN.{length, take}
 use lib.Seq.{sets, take-append-seam}
 use borrow.Author.Tests.{leb-true, leb-false}
 use Rattle.rules.specs.Catalogue.{Catalogue}
@@ -21,18 +21,13 @@ use Rattle.search.specs.declared.noting.Noted.{Noted}
 use Rattle.search.specs.declared.walk.Found.{Found}
 use Rattle.search.specs.Noting.{Sheet, sheet, noted}
 use Rattle.search.specs.Scan.{noNumber}
-use Rattle.search.specs.Walking.{movesIn, Walked, told, searchIn}
+use Rattle.search.specs.Walking.{Walked, told}
 use Rattle.search.proofs.Searched.{ended, search-finds, search-fails, search-over, search-sheet}
 use Rattle.picker.specs.Entry.{workLeast}
+use Rattle.picker.specs.Inside.{searchOf}
 use Rattle.picker.proofs.Readings.{ReadWell}
 use Rattle.picker.proofs.Turns.{stored-over}
 use Rattle.picker.proofs.Sheets.{lines-short}
-
--- a search over the tables, of so many modules
-abbrev pub searchOf : Lines → (modules allowance : ℕ) → (work : List ℕ) → Walked
-searchOf l n a work =
-    let t = l .tables in
-    searchIn (movesIn (t .values) (t .starts) (t .marks) (t .firsts) (t .counts) (t .targets) (t .lows) (t .highs) n) n a (getD (t .firsts) 0 0) work
 
 abbrev pub linesOf : Catalogue → List Entry
 linesOf c = sheetOf c (newestFirst c)
@@ -44,7 +39,8 @@ pub record SheetLeft (c : Catalogue) (allowance : ℕ) (f : Found) (area : List 
   pub ends : f .noted .end ≡ length (flatMap entryText (linesOf c))
   pub text : take (f .noted .end) area ≡ flatMap entryText (linesOf c)
 
-module _ {l : Lines} {c : Catalogue} (k : ReadWell l c) (a : ℕ) (work : List ℕ) {f : Found} (is-told : f ≡ told (searchOf l (l .state .modules) a work)) where
+module _ {l : Lines} {c : Catalogue} (k : ReadWell l c) (a : ℕ) (work : List ℕ) {f : Found}
+    (is-told : f ≡ told (searchOf (l .tables) (l .state .modules) a work)) where
   numbers : length (c .needs) ≤ noNumber
   numbers = omega (arith, k .carried .needs)
 
@@ -52,7 +48,7 @@ module _ {l : Lines} {c : Catalogue} (k : ReadWell l c) (a : ℕ) (work : List �
   walk = ended (l .tables) c (k .holds) (k .well-formed) (k .carried .modules) numbers a work
 
   told-walk : f ≡ told walk
-  told-walk = is-told ∙ ap (λ (n : ℕ). told (searchOf l n a work)) (k .modules)
+  told-walk = is-told ∙ ap (λ (n : ℕ). told (searchOf (l .tables) n a work)) (k .modules)
 
   same-found : f .found ≡ walk .found
   same-found = ap (λ (x : Found). x .found) told-walk
@@ -105,7 +101,7 @@ module _ {l : Lines} {c : Catalogue} (k : ReadWell l c) (a : ℕ) (work : List �
         go (inl b) = absurd (not-both h (ap (λ (n : Noted). n .over) same-noted ∙ ap (λ (x : Sheet). x .noted .over) (all-noted (leb-true _ a b))))
         go (inr b) = leb-false _ a b
 
-    pub sheet-left : {area : List ℕ} → area ≡ searchOf l (l .state .modules) a work .sheet .area → f .noted .over ≡ false → SheetLeft c a f area
+    pub sheet-left : {area : List ℕ} → area ≡ searchOf (l .tables) (l .state .modules) a work .sheet .area → f .noted .over ≡ false → SheetLeft c a f area
     sheet-left {area} is-area h = go (true-or-false (leb (length lines) a))
       where
         left : length lines ≤ a → SheetLeft c a f area
@@ -117,7 +113,7 @@ module _ {l : Lines} {c : Catalogue} (k : ReadWell l c) (a : ℕ) (work : List �
               ends = ends;
               text =
                   ap₂ take ends
-                  (is-area ∙ ap (λ (n : ℕ). searchOf l n a work .sheet .area) (k .modules) ∙ ap (λ (x : Sheet). x .area) (all-noted b) ∙
+                  (is-area ∙ ap (λ (n : ℕ). searchOf (l .tables) n a work .sheet .area) (k .modules) ∙ ap (λ (x : Sheet). x .area) (all-noted b) ∙
                   stored-over text work (omega (arith, lines-short lines))) ∙
                   take-append-seam text _;
             }

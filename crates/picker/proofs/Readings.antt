@@ -5,7 +5,7 @@ use mathlib.Core.List.{List}
 use Prim.Native.Nat.{ℕ, _+_, _-_, _≤_, _<_}
 use native.Mathlib.Omega.{arith}
 use lib.ListN.{length, getD}
-use Rattle.rules.specs.Lines.{Fault, fault, fine}
+use Rattle.rules.specs.Lines.{Fault, fine}
 use Rattle.rules.specs.Catalogue.{Catalogue, limits, textFault, catalogueOf, WellFormed, Carried}
 use Rattle.rules.proofs.Lists.{mem-upFrom, keep-mem, below-mem, length-upFrom}
 use Rattle.rules.proofs.Theorems.{reads-well-formed}

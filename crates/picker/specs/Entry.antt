@@ -40,21 +40,27 @@ zeroed w = replicate (length w) 0
 abbrev pub picked : Fault → (size : ℕ) → Picked
 picked x n = record { number = x .number; line = x .line; size = n }
 
+-- number 0 is no fault
 abbrev pub isFine : Fault → Bool
 isFine x = eqb (x .number) 0
+
+-- 9, "sheet written": a sheet that the checker accepts, with no more lines than the allowance, and its text in the area
+pub record SheetWritten (c : Catalogue) (sheet : List ℕ) (allowance : ℕ) (answer : Picked) (sheetAfter : List ℕ) : Type 0 where
+  pub entries : List Entry
+  pub refutes : isRefuting c entries ≡ true
+  pub within : length entries ≤ allowance
+  pub size : answer .size ≡ length (sheetText entries)
+  pub text : sheetAfter ≡ over (sheetText entries) sheet
 
 -- WHERE NO SELECTION IS VALID. Left to the program are which lines a sheet has, and 9 or 10 below 2W + 1; this holds of them
 pub record SheetOwes (c : Catalogue) (sheet : List ℕ) (allowance : ℕ) (answer : Picked) (sheetAfter : List ℕ) : Type 0 where
   pub either : (answer .number ≡ 9) ⊎ (answer .number ≡ 10)
   pub line-none : answer .line ≡ 0
-  -- 10: nothing is written, "never given when the allowance is 2W+1 or more"
+  -- 10, "no sheet written": "never given when the allowance is 2W+1 or more", and "allowance 0 always gives 10"
   pub unwritten : answer .number ≡ 10 → (answer .size ≡ 0) × (sheetAfter ≡ sheet)
   pub too-small : answer .number ≡ 10 → allowance ≤ 2 * trialsOf c
   pub none-allowed : allowance ≡ 0 → answer .number ≡ 10
-  -- 9: the text of a sheet that refutes, within the allowance
-  pub written :
-      answer .number ≡ 9 →
-      (es : List Entry) × ((isRefuting c es ≡ true) × (length es ≤ allowance) × (answer .size ≡ length (sheetText es)) × (sheetAfter ≡ over (sheetText es) sheet))
+  pub written : answer .number ≡ 9 → SheetWritten c sheet allowance answer sheetAfter
 
 -- A TEXT THAT READS WELL: the best selection's text with 0, or, where none is valid, what is owed then; the other area stays
 abbrev pub OutcomeOwes :

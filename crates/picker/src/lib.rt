@@ -1,17 +1,20 @@
 // The two calls: pick answers a catalogue's text with its best selection, or with a sheet that no selection is valid; check judges such a sheet.
 ghost use mathlib.Core.Path.{_≡_};
-ghost use mathlib.Core.Bool.{true};
+ghost use Prim.Native.Nat.{_≤_, _<_};
+ghost use lib.ListN.{length, getD};
 ghost use Rattle.rules.specs.Lines.{fault};
-ghost use Prim.Native.Nat.{_≤_};
-ghost use lib.ListN.{length};
-ghost use Rattle.picker.specs.Entry.{workLeast, areasFit, picked, ReadOwes, PickOwes};
+ghost use Rattle.search.specs.Walking.{PlacesFit, told};
+ghost use Rattle.picker.specs.Entry.{workLeast, picked, ReadOwes, PickOwes};
 ghost use Rattle.picker.specs.Checking.{checkedBy, checkOn, checkOf, workAfter};
+ghost use Rattle.picker.specs.Inside.{HasRoom, searchOf};
 use catalogue::reading;
 use frames::kinds::CATALOGUE;
 use frames::kinds::SHEET;
 use search::find;
+use search::walk::Found;
 use selection::text::write_selection;
 use sheets::reading::read_sheet;
+use store::tables::Tables;
 
 pub mod area;
 pub mod sheet;
@@ -58,25 +61,14 @@ fn answer(number: u8, line: u32, size: u32) -> Picked
     }
 }
 
-// A pick once the areas fit: the text is read, and its catalogue searched. What the search leaves in the work area stays there.
-fn pick_in(
-    text: &[u8],
-    selection: &mut [u8],
-    sheet: &mut [u8],
-    work: &mut [u8],
-    allowance: u16,
-) -> Picked
-    requires { ⌜ areasFit (now selection) (now sheet) (now work) allowance ≡ true ⌝ }
-    ensures { λ r. ⌜ ReadOwes (now (text .entry)) (now (selection .entry)) (now (sheet .entry)) allowance r
-        (now (selection .exit)) (now (sheet .exit)) ⌝ }
+// The search over the tables of a catalogue.
+fn find_in(t: Tables, work: &mut [u8], modules: u16, allowance: u16) -> Found
+    requires places { ⌜ PlacesFit (t .firsts) (t .counts) ⌝ }
+    requires root { ⌜ getD (t .firsts) 0 0 < 65535 ⌝ }
+    ensures told { λ r. ⌜ r ≡ told (searchOf t modules allowance (now (work .entry))) ⌝ }
+    ensures area { λ r. ⌜ now (work .exit) ≡ searchOf t modules allowance (now (work .entry)) .sheet .area ⌝ }
 {
-    let read = reading::read(text);
-    if read.number != 0 {
-        return answer(read.number, read.line, 0);
-    }
-    let s = read.state;
-    let t = read.tables;
-    let r = find::find(
+    find::find(
         &t.values,
         &t.starts,
         &t.marks,
@@ -86,9 +78,30 @@ fn pick_in(
         &t.lows,
         &t.highs,
         work,
-        s.modules,
+        modules,
         allowance,
-    );
+    )
+}
+
+// A pick once the areas fit: the text is read, and its catalogue searched. What the search leaves in the work area stays there.
+fn pick_in(
+    text: &[u8],
+    selection: &mut [u8],
+    sheet: &mut [u8],
+    work: &mut [u8],
+    allowance: u16,
+) -> Picked
+    requires { ⌜ HasRoom (now selection) (now sheet) (now work) allowance ⌝ }
+    ensures { λ r. ⌜ ReadOwes (now (text .entry)) (now (selection .entry)) (now (sheet .entry)) allowance r
+        (now (selection .exit)) (now (sheet .exit)) ⌝ }
+{
+    let read = reading::read(text);
+    if read.number != 0 {
+        return answer(read.number, read.line, 0);
+    }
+    let s = read.state;
+    let t = read.tables;
+    let r = find_in(t, work, s.modules, allowance);
     if r.found {
         let choices = r.choices;
         let size = write_selection(selection, &t.values, &choices.chosen, s.modules);

@@ -1,7 +1,7 @@
 -- `picker::pick` meets its contract: areas that don't fit change nothing, and after any other pick the work area is cleared.
 use borrow.Author.Needs.{needs}
 use borrow.Author.Tests.{not-true, not-false}
-use Rattle.picker.proofs.Answers.{unfit-owed, fit-owed}
+use Rattle.picker.proofs.Answers.{has-room, unfit-owed, fit-owed}
 use Rattle.picker.proofs.pick.Statement.{statement}
 use Rattle.picker.proofs.pick.Tie as tie
 
@@ -12,11 +12,14 @@ returns : tie.Need-returns
 returns c =
     let at-test = c .before in
     let given = at-test .before .before .before .before .before .args in
-    unfit-owed (given .text .now) (given .selection .now) (given .sheet .now) (given .work .now) (given .allowance) (not-true _ (at-test .if1 .taken)) (c .answer .ensures)
+    unfit-owed (given .text .now) (given .selection .now) (given .sheet .now) (given .work .now) (given .allowance)
+    (not-true _ (at-test .if1 .taken)) (c .answer .ensures)
 
 pick-in-requires : tie.Need-pick-in-requires
 pick-in-requires c κs =
-    not-false _ (c .before .before .before .if1 .left)
+    let at-test = c .before .before .before in
+    let given = at-test .before .before .before .before .before .args in
+    has-room (given .selection .now) (given .sheet .now) (given .work .now) (given .allowance) (not-false _ (at-test .if1 .left))
 
 clear-requires : tie.Need-clear-requires
 clear-requires c κs = search needs
