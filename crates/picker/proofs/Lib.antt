@@ -6,3 +6,4 @@ pub mod Checks
 pub mod Readings
 pub mod Outcomes
 pub mod Answers
+pub mod Judgements

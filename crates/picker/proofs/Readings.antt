@@ -24,6 +24,7 @@ pub record ReadWell (l : Lines) (c : Catalogue) : Type 0 where
   pub carried : Carried c
   pub modules : l .state .modules ≡ c .modules
   pub versions : l .state .versions ≡ length (c .versions)
+  pub needs : l .state .needs ≡ length (c .needs)
 
 module _ (text : List ℕ) (l : Lines) (read : CatalogueRead text l) (good : l .number ≡ 0) where
   pub read-fine : textFault limits text ≡ fine
@@ -37,6 +38,7 @@ module _ (text : List ℕ) (l : Lines) (read : CatalogueRead text l) (good : l .
         carried = well .1;
         modules = ap (λ (s : State). s .modules) (read .state) ∙ ap (λ (c : Catalogue). c .modules) reached-is;
         versions = ap (λ (s : State). s .versions) (read .state) ∙ ap (λ (c : Catalogue). length (c .versions)) reached-is;
+        needs = ap (λ (s : State). s .needs) (read .state) ∙ ap (λ (c : Catalogue). length (c .needs)) reached-is;
       }
     where
       reached-is : reachedIn text .sofar ≡ catalogueOf limits text

@@ -1,15 +1,19 @@
-// The picking call: a catalogue's text answered with its best selection, with a sheet that no selection is valid, or with a number that refuses it.
+// The two calls: pick answers a catalogue's text with its best selection, or with a sheet that no selection is valid; check judges such a sheet.
 ghost use mathlib.Core.Path.{_≡_};
-ghost use Prim.Native.Nat.{_<_};
-ghost use lib.ListN.{getD};
+ghost use Prim.Native.Nat.{_<_, _≤_};
+ghost use lib.ListN.{length, getD};
 ghost use Rattle.rules.specs.Lines.{fault};
 ghost use Rattle.search.specs.Walking.{PlacesFit, told};
-ghost use Rattle.picker.specs.Entry.{picked, ReadOwes, PickOwes};
+ghost use Rattle.picker.specs.Entry.{workLeast, picked, ReadOwes, PickOwes};
+ghost use Rattle.picker.specs.Checking.{checkedBy, checkOn, checkOf, workAfter};
 ghost use Rattle.picker.specs.Inside.{HasRoom, searchOf};
 use catalogue::reading;
+use frames::kinds::CATALOGUE;
+use frames::kinds::SHEET;
 use search::find;
 use search::walk::Found;
 use selection::text::write_selection;
+use sheets::reading::read_sheet;
 use store::tables::Tables;
 
 pub mod area;
@@ -130,6 +134,65 @@ pub fn pick(
         return answer(UNFIT, 0, 0);
     }
     let told = pick_in(text, selection, sheet, work, allowance);
+    area::clear(work);
+    told
+}
+
+// A text's refusal, or that it has none: then no text is at fault.
+fn verdict(number: u8, line: u32, text: u8) -> Checked
+    ensures { λ r. ⌜ r ≡ checkedBy text (fault number line) ⌝ }
+{
+    if number == 0 {
+        return Checked {
+            number: number,
+            line: line,
+            text: 0,
+        };
+    }
+    Checked {
+        number: number,
+        line: line,
+        text: text,
+    }
+}
+
+// A check once the work area fits: the catalogue is read whole, then the sheet is read and judged. The rows of its lines stay in the work area.
+fn check_in(text: &[u8], sheet: &[u8], work: &mut [u8]) -> Checked
+    requires { ⌜ workLeast ≤ length (now work) ⌝ }
+    ensures { λ r. ⌜ r ≡ checkOn (now (text .entry)) (now (sheet .entry)) ⌝ }
+{
+    let read = reading::read(text);
+    if read.number != 0 {
+        return verdict(read.number, read.line, CATALOGUE);
+    }
+    let s = read.state;
+    let t = read.tables;
+    let judged = read_sheet(
+        sheet,
+        &t.values,
+        &t.owners,
+        &t.firsts,
+        &t.counts,
+        &t.needies,
+        &t.targets,
+        &t.lows,
+        &t.highs,
+        s.modules,
+        s.needs,
+        work,
+    );
+    verdict(judged.number, judged.line, SHEET)
+}
+
+// Checks a sheet over a catalogue: 0 exactly for the text of a sheet that refutes it. The work area is all zero afterwards.
+pub fn check(text: &[u8], sheet: &[u8], work: &mut [u8]) -> Checked
+    ensures told { λ r. ⌜ r ≡ checkOf (now (text .entry)) (now (sheet .entry)) (now (work .entry)) ⌝ }
+    ensures work { λ r. ⌜ now (work .exit) ≡ workAfter (now (work .entry)) ⌝ }
+{
+    if work.len() < WORK_LEAST {
+        return verdict(UNFIT, 0, 0);
+    }
+    let told = check_in(text, sheet, work);
     area::clear(work);
     told
 }
