@@ -1,9 +1,8 @@
 // The two calls: pick answers a catalogue's text with its best selection, or with a sheet that no selection is valid; check judges such a sheet.
 ghost use mathlib.Core.Path.{_≡_};
-ghost use Prim.Native.Nat.{_≤_, _<_};
+ghost use Prim.Native.Nat.{_≤_};
 ghost use lib.ListN.{length};
 ghost use Rattle.rules.specs.Lines.{fault};
-ghost use Rattle.search.specs.Walking.{told};
 ghost use Rattle.picker.specs.Entry.{workLeast, picked, ReadOwes, PickOwes};
 ghost use Rattle.picker.specs.Checking.{checkedBy, checkOn, checkOf, workAfter};
 ghost use Rattle.picker.specs.Inside.{HasRoom};
@@ -11,10 +10,8 @@ use catalogue::reading;
 use frames::kinds::CATALOGUE;
 use frames::kinds::SHEET;
 use search::find;
-use search::walk::Found;
 use selection::text::write_selection;
 use sheets::reading::read_sheet;
-use store::tables::Tables;
 
 pub mod area;
 pub mod sheet;
