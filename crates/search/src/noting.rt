@@ -9,8 +9,8 @@ use frames::written;
 
 // How many lines stand in the work area, where they end, and whether one had no room.
 pub struct Noted {
-    pub lines: u16,
     pub end: usize,
+    pub lines: u16,
     pub over: bool,
 }
 

@@ -16,9 +16,9 @@ use store::tables;
 
 // How a search ends: whether it found a selection, the record of choices, and what is noted in the work area.
 pub struct Found {
-    pub found: bool,
     pub choices: Choices,
     pub noted: Noted,
+    pub found: bool,
 }
 
 // A trial of the wanted module at a place: it fails at once, with the need that bars it, or the search goes on to the next place. From a failure the
