@@ -14,7 +14,7 @@ use Rattle.rules.specs.Lists.{ahead, downFrom, countOf}
 use Rattle.rules.specs.Catalogue.{Catalogue, versionAtPlace, isOf, isOlder, WellFormed}
 use Rattle.rules.specs.Selection.{Selection, rootOnly, nextModules, chosenAt}
 use Rattle.rules.specs.Search.{Tries, IsTries, newestFirst, search, best, trialsOf, isTriedFirst, isNewer, Certified}
-use Rattle.rules.specs.Sheet.{Incompatibility, noIncompatibility, isFull, isInside, blocksAt, Blocks}
+use Rattle.rules.specs.Sheet.{noIncompatibility, isInside, blocksAt, Blocks}
 use Rattle.rules.specs.Sheet.{Entry, derived, lastLine, isRefuting, mostLines, sheetOf}
 use Rattle.rules.specs.Promises.{SomeValid, ReadsWellFormed, NewestFirstTries, FindsValid}
 use Rattle.rules.specs.Promises.{PicksValid, FactsHold, SheetsTell, BlockingRefutes, AcceptsExactly}

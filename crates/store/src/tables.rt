@@ -1,6 +1,6 @@
 // The tables that a catalogue is read into, what a frame adds to them, and what they tell of the version last read.
 ghost use mathlib.Core.Path.{_≡_};
-ghost use mathlib.Core.Bool.{_&&_, _||_};
+ghost use mathlib.Core.Bool.{_&&_};
 ghost use Prim.Native.Nat.{_+_, _-_, _<_};
 ghost use lib.Dec.{eqb};
 ghost use Rattle.store.specs.Tables.{keptAt, isVersion, isNeed, lastIn};
