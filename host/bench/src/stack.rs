@@ -1,6 +1,6 @@
 //! The stack that a call needs: the smallest thread stack on which the deepest searches and the largest texts end.
 
-use crate::jobs::{Areas, proved_pick, without_end};
+use crate::jobs::{Areas, without_end};
 use crate::sets::SETS;
 use families::{Draft, DraftNeed};
 use second::Version;
@@ -32,12 +32,7 @@ fn ends_on(kind: &str, bytes: usize) -> bool {
 pub fn run_on(kind: &str, bytes: &str) {
     let texts = if kind == "flat" { flat() } else { deep() };
     let mut areas = Areas::new();
-    let picks = move || {
-        texts
-            .iter()
-            .map(|text| proved_pick(text, &mut areas))
-            .sum::<u32>()
-    };
+    let picks = move || texts.iter().map(|text| areas.pick(text).line).max();
     let size = bytes.parse().unwrap_or(PAGE);
     let thread = thread::Builder::new().stack_size(size).spawn(picks);
     let _ = thread.expect("a thread starts").join();
@@ -47,7 +42,11 @@ pub fn run_on(kind: &str, bytes: &str) {
 fn flat() -> Vec<Vec<u8>> {
     let mut texts = vec![Draft::with_root().text(), vec![b'0'; 32_769]];
     for set in SETS {
-        texts.extend(set.texts(2).iter().map(|text| without_end(text).to_vec()));
+        texts.extend(
+            set.cases(2)
+                .iter()
+                .map(|case| without_end(&case.text).to_vec()),
+        );
     }
     texts
 }
@@ -56,7 +55,7 @@ fn flat() -> Vec<Vec<u8>> {
 fn deep() -> Vec<Vec<u8>> {
     let mut texts = vec![chain(true), chain(false)];
     for set in SETS {
-        texts.extend(set.texts(2));
+        texts.extend(set.cases(2).into_iter().map(|case| case.text));
     }
     texts
 }
