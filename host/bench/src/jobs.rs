@@ -30,6 +30,11 @@ impl Areas {
         } = self;
         proved::pick(text, selection, sheet, work, 480)
     }
+
+    /// Checks with the proved checker.
+    pub fn check(&mut self, text: &[u8], sheet: &[u8]) -> proved::Answer {
+        proved::check(text, sheet, &mut self.work)
+    }
 }
 
 /// One thing to measure on a case.
@@ -75,9 +80,7 @@ fn second_pick(case: &Case, areas: &mut Areas) -> u32 {
 
 #[inline(never)]
 fn proved_check(case: &Case, areas: &mut Areas) -> u32 {
-    proved::check(&case.text, &case.sheet, &mut areas.work)
-        .line
-        .into()
+    areas.check(&case.text, &case.sheet).line.into()
 }
 
 #[inline(never)]

@@ -136,13 +136,15 @@ fn stack_lines(page: &mut String) {
         page,
         "\n## Stack
 
-The smallest thread stack, in bytes and by pages of 4,096, on which the proved picks end; a run on a smaller one is ended by a signal. The figures
+The smallest thread stack, in bytes and by pages of 4,096, on which the proved calls end; a run on a smaller one is ended by a signal. The figures
 hold the thread's own frames too. The deepest searches go through 32 modules, each of which needs the next.
 
-| picks | stack |\n|---|---|
-| without a search: a root alone, refused texts, a text that is too long | {} |
-| with the deepest searches, with and without a valid selection, and with two catalogues of each set | {} |\n",
+| calls | stack |\n|---|---|
+| picks without a search: a root alone, refused texts, a text that is too long | {} |
+| picks with the deepest searches, with and without a valid selection, and with two catalogues of each set | {} |
+| checks of a sheet of 480 lines over the same catalogues | {} |\n",
         least("flat"),
-        least("deep")
+        least("deep"),
+        least("check")
     );
 }

@@ -1,16 +1,16 @@
-//! The stack that a call needs: the smallest thread stack on which the deepest searches and the largest texts end.
+//! The stack that a call needs: the smallest thread stack on which the deepest searches, the largest texts and the longest sheets end.
 
 use crate::jobs::{Areas, without_end};
 use crate::sets::SETS;
 use families::{Draft, DraftNeed};
-use second::Version;
+use second::{SheetLine, Version, sheet_text};
 use std::process::Command;
 use std::thread;
 
 /// A page of memory, by which stacks grow.
 const PAGE: usize = 4_096;
 
-/// The smallest stack, in bytes, on which all picks of a kind end; no more than 1 MiB is tried.
+/// The smallest stack, in bytes, on which all calls of a kind end; no more than 1 MiB is tried.
 pub fn least(kind: &str) -> Option<usize> {
     (1..=256)
         .map(|pages| pages * PAGE)
@@ -28,13 +28,24 @@ fn ends_on(kind: &str, bytes: usize) -> bool {
     run.is_ok_and(|output| output.status.success())
 }
 
-/// Picks on a thread with a stack of so many bytes. A stack that is too small ends the program by a signal.
+/// Calls on a thread with a stack of so many bytes. A stack that is too small ends the program by a signal.
 pub fn run_on(kind: &str, bytes: &str) {
-    let texts = if kind == "flat" { flat() } else { deep() };
     let mut areas = Areas::new();
-    let picks = move || texts.iter().map(|text| areas.pick(text).line).max();
+    let (texts, sheet) = match kind {
+        "flat" => (flat(), None),
+        "deep" => (deep(), None),
+        _ => (deep(), Some(sheet_text(&[SheetLine::Need(0); 480]))),
+    };
+    let calls = move || {
+        for text in &texts {
+            match &sheet {
+                Some(sheet) => areas.check(text, sheet),
+                None => areas.pick(text),
+            };
+        }
+    };
     let size = bytes.parse().unwrap_or(PAGE);
-    let thread = thread::Builder::new().stack_size(size).spawn(picks);
+    let thread = thread::Builder::new().stack_size(size).spawn(calls);
     let _ = thread.expect("a thread starts").join();
 }
 
