@@ -10,9 +10,7 @@ use borrow.Author.Tests.{le-leb, lt-leb, eq-eqb, ne-eqb}
 use Rattle.rules.specs.Lines.{Fault, fault}
 use Rattle.rules.specs.Frames.{catalogues, sheets}
 use Rattle.rules.specs.Catalogue.{Catalogue, limits, textFault, catalogueOf}
-use Rattle.rules.specs.Sheet.{sheetFault}
 use Rattle.rules.proofs.Lists.{cond-true, cond-false}
-use Rattle.store.specs.declared.tables.Tables.{Tables}
 use Rattle.catalogue.specs.declared.reading.Lines.{Lines}
 use Rattle.catalogue.specs.Reading.{CatalogueRead}
 use Rattle.sheets.specs.Reading.{lentBy, Given, SheetJudged}

@@ -1,20 +1,17 @@
 // The two calls: pick answers a catalogue's text with its best selection, or with a sheet that no selection is valid; check judges such a sheet.
 ghost use mathlib.Core.Path.{_≡_};
-ghost use Prim.Native.Nat.{_≤_, _<_};
-ghost use lib.ListN.{length, getD};
+ghost use Prim.Native.Nat.{_≤_};
+ghost use lib.ListN.{length};
 ghost use Rattle.rules.specs.Lines.{fault};
-ghost use Rattle.search.specs.Walking.{PlacesFit, told};
 ghost use Rattle.picker.specs.Entry.{workLeast, picked, ReadOwes, PickOwes};
 ghost use Rattle.picker.specs.Checking.{checkedBy, checkOn, checkOf, workAfter};
-ghost use Rattle.picker.specs.Inside.{HasRoom, searchOf};
+ghost use Rattle.picker.specs.Inside.{HasRoom};
 use catalogue::reading;
 use frames::kinds::CATALOGUE;
 use frames::kinds::SHEET;
 use search::find;
-use search::walk::Found;
 use selection::text::write_selection;
 use sheets::reading::read_sheet;
-use store::tables::Tables;
 
 pub mod area;
 pub mod sheet;
@@ -61,28 +58,6 @@ fn answer(number: u8, line: u32, size: u32) -> Picked
     }
 }
 
-// The search over the tables of a catalogue.
-fn find_in(t: Tables, work: &mut [u8], modules: u16, allowance: u16) -> Found
-    requires places { ⌜ PlacesFit (t .firsts) (t .counts) ⌝ }
-    requires root { ⌜ getD (t .firsts) 0 0 < 65535 ⌝ }
-    ensures told { λ r. ⌜ r ≡ told (searchOf t modules allowance (now (work .entry))) ⌝ }
-    ensures area { λ r. ⌜ now (work .exit) ≡ searchOf t modules allowance (now (work .entry)) .sheet .area ⌝ }
-{
-    find::find(
-        &t.values,
-        &t.starts,
-        &t.marks,
-        &t.firsts,
-        &t.counts,
-        &t.targets,
-        &t.lows,
-        &t.highs,
-        work,
-        modules,
-        allowance,
-    )
-}
-
 // A pick once the areas fit: the text is read, and its catalogue searched. What the search leaves in the work area stays there.
 fn pick_in(
     text: &[u8],
@@ -100,11 +75,22 @@ fn pick_in(
         return answer(read.number, read.line, 0);
     }
     let s = read.state;
-    let t = read.tables;
-    let r = find_in(t, work, s.modules, allowance);
+    let r = find::find(
+        &read.tables.values,
+        &read.tables.starts,
+        &read.tables.marks,
+        &read.tables.firsts,
+        &read.tables.counts,
+        &read.tables.targets,
+        &read.tables.lows,
+        &read.tables.highs,
+        work,
+        s.modules,
+        allowance,
+    );
     if r.found {
         let choices = r.choices;
-        let size = write_selection(selection, &t.values, &choices.chosen, s.modules);
+        let size = write_selection(selection, &read.tables.values, &choices.chosen, s.modules);
         return answer(SELECTED, 0, size as u32);
     }
     let noted = r.noted;
@@ -166,17 +152,16 @@ fn check_in(text: &[u8], sheet: &[u8], work: &mut [u8]) -> Checked
         return verdict(read.number, read.line, CATALOGUE);
     }
     let s = read.state;
-    let t = read.tables;
     let judged = read_sheet(
         sheet,
-        &t.values,
-        &t.owners,
-        &t.firsts,
-        &t.counts,
-        &t.needies,
-        &t.targets,
-        &t.lows,
-        &t.highs,
+        &read.tables.values,
+        &read.tables.owners,
+        &read.tables.firsts,
+        &read.tables.counts,
+        &read.tables.needies,
+        &read.tables.targets,
+        &read.tables.lows,
+        &read.tables.highs,
         s.modules,
         s.needs,
         work,

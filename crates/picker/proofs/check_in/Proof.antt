@@ -12,8 +12,8 @@ verdict-requires c κs = search needs
 
 returns : tie.Need-returns
 returns c =
-    let given = c .before .before .before .before .before .before .before .args in
-    text-told (given .text .now) (given .sheet .now) _ (c .before .before .before .read .ensures) (c .before .if1 .taken) (c .verdict .ensures)
+    let given = c .before .before .before .before .before .before .args in
+    text-told (given .text .now) (given .sheet .now) _ (c .before .before .read .ensures) (c .before .if1 .taken) (c .verdict .ensures)
 
 read-sheet-requires : tie.Need-read-sheet-requires
 read-sheet-requires c κs = search needs
@@ -27,8 +27,9 @@ same-length c = search needs
 returns-2 : tie.Need-returns-2
 returns-2 c =
     let at-read-sheet = c .before .before .before in
-    let at-if1 = at-read-sheet .before .before .before .before .before .before .before .before .before .before .before .before .before .before .before .before .before .before .before .before .before in
-    let at-read = at-if1 .before .before in
+    let at-if1 = at-read-sheet .before .before .before .before .before .before .before .before .before .before .before .before .before .before .before
+    .before .before .before .before .before in
+    let at-read = at-if1 .before in
     let at-entry = at-read .before .before .before .before in
     let given = at-entry .args in
     sheet-told (given .text .now) (given .sheet .now) _ (at-read .read .ensures) (at-if1 .if1 .left) (at-entry .pre) (at-read-sheet .read-sheet .ensures)

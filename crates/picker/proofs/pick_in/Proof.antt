@@ -14,36 +14,37 @@ answer-requires : tie.Need-answer-requires
 answer-requires c κs = search needs
 
 returns : tie.Need-returns
-returns c =
-    let at-test = c .before in
-    let at-read = at-test .before .before in
-    refused (at-read .read .ensures) (at-test .if1 .taken) (c .answer .ensures)
+returns c = refused (c .before .before .read .ensures) (c .before .if1 .taken) (c .answer .ensures)
 
-find-in-requires : tie.Need-find-in-requires
-find-in-requires c κs =
-    let at-test = c .before .before .before in
-    let at-known = at-test .before in
-    let at-read = at-test .before .before in
-    let is-known = known (at-read .before .before .before .before .before .pre) (at-read .read .ensures) (at-test .if1 .left) in
-    let few : at-read .read .result .state .versions ≤ 65535 = omega (arith, at-known .struct-known .given .1 .1 .0 .1 .1 .0) in
+find-requires : tie.Need-find-requires
+find-requires c κs =
+    let at-if1 = c .before .before .before .before .before .before .before .before .before .before .before .before .before .before .before .before
+    .before .before .before in
+    let at-read = at-if1 .before in
+    let at-entry = at-read .before .before .before .before .before in
+    let is-known = known (at-entry .pre) (at-read .read .ensures) (at-if1 .if1 .left) in
+    let few : at-read .read .result .state .versions ≤ 65535 = omega (arith, at-read .read .ok) in
     (places-fit (is-known .well) few, root-fits (is-known .well) few)
 
 write-selection-requires : tie.Need-write-selection-requires
 write-selection-requires c κs =
-    let at-find = c .before .before .before .before .before .before .before .before .before .before .before in
-    let at-test = at-find .before .before .before .before in
-    let at-read = at-test .before .before in
-    let is-known = known (at-read .before .before .before .before .before .pre) (at-read .read .ensures) (at-test .if1 .left) in
+    let at-if1 = c .before .before .before .before .before .before .before .before .before .before .before .before .before .before .before .before
+    .before .before .before .before .before .before .before .before .before .before .before .before .before .before .before in
+    let at-read = at-if1 .before in
+    let at-entry = at-read .before .before .before .before .before in
+    let is-known = known (at-entry .pre) (at-read .read .ensures) (at-if1 .if1 .left) in
     (few-modules is-known, is-known .room .selection-room)
 
 cast-answer : tie.Need-cast-answer
 cast-answer c =
-    let at-writing = c .before .before in
-    let at-find = at-writing .before .before .before .before .before .before .before .before .before .before .before .before in
-    let at-test = at-find .before .before .before .before in
-    let at-read = at-test .before .before in
-    let is-known = known (at-read .before .before .before .before .before .pre) (at-read .read .ensures) (at-test .if1 .left) in
-    omega (arith, at-writing .write-selection .ensures .0, text-fits is-known (at-find .find-in .result .choices .chosen))
+    let at-write-selection = c .before .before in
+    let at-find = at-write-selection .before .before .before .before .before .before .before .before .before .before .before .before in
+    let at-if1 = at-find .before .before .before .before .before .before .before .before .before .before .before .before .before .before .before
+    .before .before .before .before .before in
+    let at-read = at-if1 .before in
+    let at-entry = at-read .before .before .before .before .before in
+    let is-known = known (at-entry .pre) (at-read .read .ensures) (at-if1 .if1 .left) in
+    omega (arith, at-write-selection .write-selection .ensures .0, text-fits is-known (at-find .find .result .choices .chosen))
 
 answer-requires-2 : tie.Need-answer-requires-2
 answer-requires-2 c κs = search needs
@@ -56,14 +57,16 @@ same-length-2 c = search needs
 
 returns-2 : tie.Need-returns-2
 returns-2 c =
-    let at-writing = c .before .before .before in
-    let at-found = at-writing .before .before .before .before .before .before .before .before .before in
-    let at-find = at-found .before .before .before in
-    let at-test = at-find .before .before .before .before in
-    let at-read = at-test .before .before in
-    let is-known = known (at-read .before .before .before .before .before .pre) (at-read .read .ensures) (at-test .if1 .left) in
-    selected is-known (at-find .find-in .ensures .0) (at-found .if2 .taken) (at-writing .write-selection .ensures .0)
-    (at-writing .write-selection .ensures .1) (c .answer2 .ensures)
+    let at-write-selection = c .before .before .before in
+    let at-if2 = at-write-selection .before .before .before .before .before .before .before .before .before in
+    let at-find = at-if2 .before .before .before in
+    let at-if1 = at-find .before .before .before .before .before .before .before .before .before .before .before .before .before .before .before
+    .before .before .before .before .before in
+    let at-read = at-if1 .before in
+    let at-entry = at-read .before .before .before .before .before in
+    let is-known = known (at-entry .pre) (at-read .read .ensures) (at-if1 .if1 .left) in
+    selected is-known (at-find .find .ensures .0) (at-if2 .if2 .taken) (at-write-selection .write-selection .ensures .0)
+    (at-write-selection .write-selection .ensures .1) (c .answer2 .ensures)
 
 answer-requires-3 : tie.Need-answer-requires-3
 answer-requires-3 c κs = search needs
@@ -73,36 +76,41 @@ same-length-3 c = search needs
 
 returns-3 : tie.Need-returns-3
 returns-3 c =
-    let at-over = c .before in
-    let at-found = at-over .before .before in
-    let at-find = at-found .before .before .before in
-    let at-test = at-find .before .before .before .before in
-    let at-read = at-test .before .before in
-    let is-known = known (at-read .before .before .before .before .before .pre) (at-read .read .ensures) (at-test .if1 .left) in
-    unsheeted is-known (at-find .find-in .ensures .0) (at-found .if2 .left) (at-over .if3 .taken) (c .answer3 .ensures)
+    let at-if2 = c .before .before .before in
+    let at-find = at-if2 .before .before .before in
+    let at-if1 = at-find .before .before .before .before .before .before .before .before .before .before .before .before .before .before .before
+    .before .before .before .before .before in
+    let at-read = at-if1 .before in
+    let at-entry = at-read .before .before .before .before .before in
+    let is-known = known (at-entry .pre) (at-read .read .ensures) (at-if1 .if1 .left) in
+    unsheeted is-known (at-find .find .ensures .0) (at-if2 .if2 .left) (c .before .if3 .taken) (c .answer3 .ensures)
 
 write-sheet-requires : tie.Need-write-sheet-requires
 write-sheet-requires c κs =
-    let at-over = c .before .before in
-    let at-found = at-over .before .before in
-    let at-find = at-found .before .before .before in
-    let at-test = at-find .before .before .before .before in
-    let at-read = at-test .before .before in
-    let is-known = known (at-read .before .before .before .before .before .pre) (at-read .read .ensures) (at-test .if1 .left) in
-    let short = lines-fit is-known (at-find .find-in .ensures .0) (at-found .if2 .left) (at-find .find-in .ensures .1) (at-over .if3 .left) in
+    let at-if3 = c .before .before in
+    let at-if2 = at-if3 .before .before in
+    let at-find = at-if2 .before .before .before in
+    let at-if1 = at-find .before .before .before .before .before .before .before .before .before .before .before .before .before .before .before
+    .before .before .before .before .before in
+    let at-read = at-if1 .before in
+    let at-entry = at-read .before .before .before .before .before in
+    let is-known = known (at-entry .pre) (at-read .read .ensures) (at-if1 .if1 .left) in
+    let short = lines-fit is-known (at-find .find .ensures .0) (at-if2 .if2 .left) (at-find .find .ensures .1) (at-if3 .if3 .left) in
     (omega (arith, short, is-known .room .work-room), omega (arith, short, is-known .room .sheet-room))
 
 cast-answer-2 : tie.Need-cast-answer-2
 cast-answer-2 c =
-    let at-writing = c .before .before in
-    let at-over = at-writing .before .before .before in
-    let at-found = at-over .before .before in
-    let at-find = at-found .before .before .before in
-    let at-test = at-find .before .before .before .before in
-    let at-read = at-test .before .before in
-    let is-known = known (at-read .before .before .before .before .before .pre) (at-read .read .ensures) (at-test .if1 .left) in
-    let short = sheet-fits is-known (at-find .find-in .ensures .0) (at-found .if2 .left) (at-find .find-in .ensures .1) (at-over .if3 .left) in
-    omega (arith, at-writing .write-sheet .ensures .0, short)
+    let at-write-sheet = c .before .before in
+    let at-if3 = at-write-sheet .before .before .before in
+    let at-if2 = at-if3 .before .before in
+    let at-find = at-if2 .before .before .before in
+    let at-if1 = at-find .before .before .before .before .before .before .before .before .before .before .before .before .before .before .before
+    .before .before .before .before .before in
+    let at-read = at-if1 .before in
+    let at-entry = at-read .before .before .before .before .before in
+    let is-known = known (at-entry .pre) (at-read .read .ensures) (at-if1 .if1 .left) in
+    let short = sheet-fits is-known (at-find .find .ensures .0) (at-if2 .if2 .left) (at-find .find .ensures .1) (at-if3 .if3 .left) in
+    omega (arith, at-write-sheet .write-sheet .ensures .0, short)
 
 answer-requires-4 : tie.Need-answer-requires-4
 answer-requires-4 c κs = search needs
@@ -115,15 +123,18 @@ same-length-5 c = search needs
 
 returns-4 : tie.Need-returns-4
 returns-4 c =
-    let at-writing = c .before .before .before in
-    let at-over = at-writing .before .before .before in
-    let at-found = at-over .before .before in
-    let at-find = at-found .before .before .before in
-    let at-test = at-find .before .before .before .before in
-    let at-read = at-test .before .before in
-    let is-known = known (at-read .before .before .before .before .before .pre) (at-read .read .ensures) (at-test .if1 .left) in
-    sheeted is-known (at-find .find-in .ensures .0) (at-found .if2 .left) (at-find .find-in .ensures .1) (at-over .if3 .left)
-    (at-writing .write-sheet .ensures .0) (at-writing .write-sheet .ensures .1) (c .answer4 .ensures)
+    let at-write-sheet = c .before .before .before in
+    let at-if3 = at-write-sheet .before .before .before in
+    let at-if2 = at-if3 .before .before in
+    let at-find = at-if2 .before .before .before in
+    let at-if1 = at-find .before .before .before .before .before .before .before .before .before .before .before .before .before .before .before
+    .before .before .before .before .before in
+    let at-read = at-if1 .before in
+    let at-entry = at-read .before .before .before .before .before in
+    let is-known = known (at-entry .pre) (at-read .read .ensures) (at-if1 .if1 .left) in
+    sheeted is-known (at-find .find .ensures .0) (at-if2 .if2 .left) (at-find .find .ensures .1) (at-if3 .if3 .left)
+    (at-write-sheet .write-sheet .ensures .0) (at-write-sheet .write-sheet .ensures .1)
+    (c .answer4 .ensures)
 
 pub pick-in-spec : {M : Type 1} → statement M
 pick-in-spec =
@@ -132,7 +143,7 @@ pick-in-spec =
     read-requires
     answer-requires
     returns
-    find-in-requires
+    find-requires
     write-selection-requires
     cast-answer
     answer-requires-2

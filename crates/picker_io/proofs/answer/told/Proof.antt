@@ -1,6 +1,5 @@
 -- `picker_io::answer::told` meets its contract: the frame's line fills the array.
 use mathlib.Core.Path.{_∙_}
-use native.Mathlib.Omega.{arith}
 use borrow.Author.Needs.{needs}
 use Rattle.rules.proofs.Written.{frame-length}
 use Rattle.picker_io.proofs.Stored.{whole-stored}
