@@ -33,7 +33,7 @@ extern "C" {
  * too large; nothing is changed. 1 to 8: the text is refused at the line told. The length is that of the text written, else 0.
  *
  * Every other byte of the selection and the sheet area stays, and with any number but 11 the work area is all zero afterwards. No two areas may overlap,
- * and none may overlap the text. Nothing is kept between calls, so calls with different areas may run at the same time. A call takes less than 100 KB of
+ * and none may overlap the text. Nothing is kept between calls, so calls with different areas may run at the same time. A call takes less than 64 KB of
  * stack.
  */
 uint64_t towerbasin_pick(const uint8_t *text, size_t text_length, uint8_t *selection, size_t selection_length, uint8_t *sheet, size_t sheet_length,

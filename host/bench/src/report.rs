@@ -136,8 +136,8 @@ fn stack_lines(page: &mut String) {
         page,
         "\n## Stack
 
-The smallest thread stack, in bytes and by pages of 4,096, on which the proved calls end; a run on a smaller one is ended by a signal. The figures
-hold the thread's own frames too. The deepest searches go through 32 modules, each of which needs the next.
+Bytes, to a page of 4,096: the smallest thread stack on which the proved calls end, less what a thread needs by itself, which a frame of known length
+tells. A run on a smaller stack is ended by a signal. The deepest searches go through 32 modules, each of which needs the next.
 
 | calls | stack |\n|---|---|
 | picks without a search: a root alone, refused texts, a text that is too long | {} |

@@ -4,14 +4,24 @@ use crate::jobs::{Areas, without_end};
 use crate::sets::SETS;
 use families::{Draft, DraftNeed};
 use second::{SheetLine, Version, sheet_text};
+use std::hint::black_box;
 use std::process::Command;
 use std::thread;
 
 /// A page of memory, by which stacks grow.
 const PAGE: usize = 4_096;
 
-/// The smallest stack, in bytes, on which all calls of a kind end; no more than 1 MiB is tried.
+/// Bytes of a frame that is known, to learn what a thread needs by itself.
+const KNOWN: usize = 10 * PAGE;
+
+/// The stack, in bytes, that all calls of a kind need, to a page: the smallest thread stack on which they end, less what a thread needs by itself.
 pub fn least(kind: &str) -> Option<usize> {
+    let own = smallest("known")?.checked_sub(KNOWN)?;
+    smallest(kind)?.checked_sub(own)
+}
+
+/// The smallest thread stack on which all calls of a kind end; no more than 1 MiB is tried.
+fn smallest(kind: &str) -> Option<usize> {
     (1..=256)
         .map(|pages| pages * PAGE)
         .find(|&bytes| ends_on(kind, bytes))
@@ -36,7 +46,11 @@ pub fn run_on(kind: &str, bytes: &str) {
         "deep" => (deep(), None),
         _ => (deep(), Some(sheet_text(&[SheetLine::Need(0); 480]))),
     };
+    let known = kind == "known";
     let calls = move || {
+        if known {
+            return known_frame();
+        }
         for text in &texts {
             match &sheet {
                 Some(sheet) => areas.check(text, sheet),
@@ -47,6 +61,12 @@ pub fn run_on(kind: &str, bytes: &str) {
     let size = bytes.parse().unwrap_or(PAGE);
     let thread = thread::Builder::new().stack_size(size).spawn(calls);
     let _ = thread.expect("a thread starts").join();
+}
+
+/// Fills a frame of the known length, and does nothing else.
+#[inline(never)]
+fn known_frame() {
+    black_box([1_u8; KNOWN]);
 }
 
 /// Texts without a search: a root alone, a text that is too long, and the largest, each without its end.
