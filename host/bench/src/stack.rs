@@ -69,7 +69,7 @@ fn known_frame() {
     black_box([1_u8; KNOWN]);
 }
 
-/// Texts without a search: a root alone, a text that is too long, and the largest, each without its end.
+/// Texts without a search: a root alone, a text that is too long, and two of each set without their end.
 fn flat() -> Vec<Vec<u8>> {
     let mut texts = vec![Draft::with_root().text(), vec![b'0'; 32_769]];
     for set in SETS {

@@ -20,12 +20,13 @@ pub fn compare_check(
     let wanted = wanted(text, sheet, work);
     match judge(answer, wanted, &area, &texts) {
         Ok(()) => Ok(answer.number),
-        Err(what) => Err(Box::new(Difference {
+        Err(what) => Err(Difference {
             text: text.to_vec(),
             sheet: Some(sheet.to_vec()),
             lent: format!("a work area of {work} bytes"),
             what: format!("{what}; the proved checker answers {answer:?}"),
-        })),
+        }
+        .kept()),
     }
 }
 

@@ -2,6 +2,8 @@
 
 use crate::area::Area;
 use std::fmt;
+use std::fs;
+use std::path::Path;
 
 /// A difference between the two.
 #[derive(Clone, Debug)]
@@ -16,6 +18,22 @@ pub struct Difference {
     pub what: String,
 }
 
+/// Where the catalogue text of a difference is kept, byte for byte, seen from the project's root.
+const KEPT: &str = "host/target/difference.catalogue";
+
+impl Difference {
+    /// Keeps the catalogue text as a file too, since its bytes need not be printable.
+    pub fn kept(self) -> Box<Difference> {
+        let path = Path::new(env!("CARGO_MANIFEST_DIR"))
+            .join("../..")
+            .join(KEPT);
+        if let Err(error) = fs::write(&path, &self.text) {
+            eprintln!("{}: {error}", path.display());
+        }
+        Box::new(self)
+    }
+}
+
 impl fmt::Display for Difference {
     fn fmt(&self, f: &mut fmt::Formatter<'_>) -> fmt::Result {
         writeln!(f, "{} (lent: {})", self.what, self.lent)?;
@@ -25,7 +43,7 @@ impl fmt::Display for Difference {
         }
         writeln!(
             f,
-            "The catalogue, of {} bytes, to be fed to ./pick:",
+            "The catalogue, of {} bytes, shows it by ./pick {KEPT}:",
             self.text.len()
         )?;
         f.write_str(&String::from_utf8_lossy(&self.text))

@@ -53,12 +53,13 @@ pub fn compare_pick(text: &[u8], lent: Lent, rng: &mut Rng) -> Result<Option<u8>
     );
     match call.judge(text, lent, answer, &wanted) {
         Ok(()) => Ok(Some(answer.number)),
-        Err(what) => Err(Box::new(Difference {
+        Err(what) => Err(Difference {
             text: text.to_vec(),
             sheet: None,
             lent: format!("{lent:?}"),
             what: format!("{what}; the proved picker answers {answer:?}"),
-        })),
+        }
+        .kept()),
     }
 }
 
