@@ -25,6 +25,7 @@ extern "C" {
 /* The text at fault. */
 #define TOWERBASIN_NEITHER 0
 #define TOWERBASIN_CATALOGUE 1
+#define TOWERBASIN_SHEET 2
 
 /*
  * Picks for a catalogue's text. Number 0: the best selection's text stands at the start of the selection area. 9: no selection is valid, and a sheet that
@@ -37,6 +38,13 @@ extern "C" {
  */
 uint64_t towerbasin_pick(const uint8_t *text, size_t text_length, uint8_t *selection, size_t selection_length, uint8_t *sheet, size_t sheet_length,
                          uint8_t *work, size_t work_length, uint16_t allowance);
+
+/*
+ * Checks a sheet over a catalogue's text. Number 0: the sheet shows that no selection is valid. 13: it is well formed and does not. 11: the work area is
+ * too small; nothing is changed. Else the text at fault is refused at the line told, the catalogue with 1 to 8, and after it the sheet with 1 to 6. The
+ * length is 0. The work area is all zero afterwards but with 11, and must not overlap the texts.
+ */
+uint64_t towerbasin_check(const uint8_t *text, size_t text_length, const uint8_t *sheet, size_t sheet_length, uint8_t *work, size_t work_length);
 
 #ifdef __cplusplus
 }

@@ -1,4 +1,4 @@
-/* Picks for the catalogue on standard input and says in words how it came out, with the selection or the sheet below. */
+/* Picks for the catalogue on standard input, has a sheet checked, and says in words how it came out, with the selection or the sheet below. */
 #include <stdio.h>
 #include <towerbasin.h>
 
@@ -22,6 +22,10 @@ int main(void)
         fwrite(selection, 1, TOWERBASIN_LENGTH(answer), stdout);
         break;
     case 9:
+        if (towerbasin_check(text, size, sheet, TOWERBASIN_LENGTH(answer), work, sizeof work) != 0) {
+            puts("the checker refuses the sheet");
+            break;
+        }
         puts("no selection is valid, as this sheet shows:");
         fwrite(sheet, 1, TOWERBASIN_LENGTH(answer), stdout);
         break;

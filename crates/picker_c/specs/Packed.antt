@@ -4,6 +4,7 @@ use mathlib.Core.Bool.{cond, _&&_}
 use mathlib.Core.List.{List}
 use Prim.Native.Nat.{ℕ, _+_, _*_, _%_}
 use lib.Dec.{leb}
+use Rattle.picker.specs.declared.Checked.{Checked}
 use Rattle.picker.specs.declared.Picked.{Picked}
 use Rattle.picker.specs.Entry.{PickOwes}
 
@@ -23,7 +24,11 @@ textOf n = cond (leb 1 n && leb n 8) 1 0
 abbrev pub packedPick : Picked → ℕ
 packedPick p = packed (p .number) (textOf (p .number)) (p .line) 0 (p .size)
 
--- WHAT THE CALL FOR C OWES: the packed answer is that of a pick that owes what the picker's own call owes
+-- a check's answer; no place is told, and nothing is written
+abbrev pub packedCheck : Checked → ℕ
+packedCheck c = packed (c .number) (c .text) (c .line) 0 0
+
+-- WHAT A PICK FOR C OWES: the packed answer is that of a pick that owes what the picker's own call owes
 pub record PackedOwes (text selection sheet work : List ℕ) (allowance answer : ℕ) (selectionAfter sheetAfter workAfter : List ℕ) : Type 0 where
   pub told : Picked
   pub packs : answer ≡ packedPick told

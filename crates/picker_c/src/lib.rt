@@ -1,6 +1,8 @@
 // The calls for C: numbers and byte areas only, the answer packed into one number of 64 bits.
 ghost use mathlib.Core.Path.{_≡_};
-ghost use Rattle.picker_c.specs.Packed.{textOf, packed, packedPick, PackedOwes};
+ghost use Rattle.picker.specs.Checking.{checkOf, workAfter};
+ghost use Rattle.picker_c.specs.Packed.{textOf, packed, packedPick, packedCheck, PackedOwes};
+use picker::Checked;
 use picker::Picked;
 
 // Texts that can be at fault.
@@ -36,6 +38,13 @@ fn pack_picked(p: Picked) -> u64
     pack(p.number, text_of(p.number), p.line, 0, p.size)
 }
 
+// A check's answer, packed.
+fn pack_checked(c: Checked) -> u64
+    ensures { λ r. ⌜ r ≡ packedCheck c ⌝ }
+{
+    pack(c.number, c.text, c.line, 0, 0)
+}
+
 // Picks for a catalogue's text: the picker's promise of the areas, and its answer packed.
 #[no_mangle]
 pub extern "C" fn towerbasin_pick(
@@ -49,4 +58,13 @@ pub extern "C" fn towerbasin_pick(
         (now (selection .exit)) (now (sheet .exit)) (now (work .exit)) ⌝ }
 {
     pack_picked(picker::pick(text, selection, sheet, work, allowance))
+}
+
+// Checks a sheet over a catalogue's text: the checker's answer packed, and its promise of the work area.
+#[no_mangle]
+pub extern "C" fn towerbasin_check(text: &[u8], sheet: &[u8], work: &mut [u8]) -> u64
+    ensures answer { λ r. ⌜ r ≡ packedCheck (checkOf (now (text .entry)) (now (sheet .entry)) (now (work .entry))) ⌝ }
+    ensures area { λ r. ⌜ now (work .exit) ≡ workAfter (now (work .entry)) ⌝ }
+{
+    pack_checked(picker::check(text, sheet, work))
 }

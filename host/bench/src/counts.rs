@@ -1,20 +1,12 @@
 //! Instruction counts by callgrind, of the jobs alone.
 
-use crate::jobs::{Areas, Job, proved_pick, proved_read, second_pick, second_read};
+use crate::jobs::{Areas, JOBS};
 use crate::sets::{SETS, Set};
 use std::hint::black_box;
 use std::process::Command;
 
 /// Texts of a set that are counted.
-pub const TEXTS: u64 = 4;
-
-/// The jobs by the names that callgrind is given.
-const JOBS: [(&str, Job); 4] = [
-    ("proved_read", proved_read),
-    ("second_read", second_read),
-    ("proved_pick", proved_pick),
-    ("second_pick", second_pick),
-];
+pub const TEXTS: u64 = 8;
 
 /// Keeps the C library from clearing and copying by instructions that callgrind counts once for each byte.
 const NO_STRING_INSTRUCTIONS: &str =
@@ -35,15 +27,17 @@ pub fn instructions(job: &str, set: &Set) -> Option<u64> {
     line.split_whitespace().last()?.parse().ok()
 }
 
-/// Does a job once for each of a set's first texts; callgrind watches.
-pub fn run_once(job: &str, set: &str) {
-    let named = JOBS.iter().find(|entry| entry.0 == job);
+/// Does a job once for each of a set's first texts, a check only where there is a sheet; callgrind watches.
+pub fn run_once(job_name: &str, set: &str) {
+    let named = JOBS.iter().find(|entry| entry.0 == job_name);
     let wanted = SETS.iter().find(|entry| entry.name == set);
     let (Some((_, job)), Some(set)) = (named, wanted) else {
         return;
     };
     let mut areas = Areas::new();
-    for text in set.texts(TEXTS) {
-        black_box(job(black_box(&text), &mut areas));
+    for case in set.cases(TEXTS) {
+        if !(job_name.ends_with("check") && case.sheet.is_empty()) {
+            black_box(job(black_box(&case), &mut areas));
+        }
     }
 }

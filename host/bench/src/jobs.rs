@@ -1,5 +1,6 @@
-//! What is measured: reading and picking, by the proved picker and by the second one.
+//! What is measured: reading, picking and checking, by the proved picker and by the second one.
 
+use crate::sets::Case;
 use compare::proved;
 use second::calls::{SELECTION_AREA, SHEET_AREA, WORK_AREA};
 
@@ -19,43 +20,70 @@ impl Areas {
             work: vec![0; WORK_AREA],
         }
     }
+
+    /// Picks with the proved picker.
+    pub fn pick(&mut self, text: &[u8]) -> proved::Answer {
+        let Areas {
+            selection,
+            sheet,
+            work,
+        } = self;
+        proved::pick(text, selection, sheet, work, 480)
+    }
+
+    /// Checks with the proved checker.
+    pub fn check(&mut self, text: &[u8], sheet: &[u8]) -> proved::Answer {
+        proved::check(text, sheet, &mut self.work)
+    }
 }
 
-/// One thing to measure on a text.
-pub type Job = fn(&[u8], &mut Areas) -> u32;
+/// One thing to measure on a case.
+pub type Job = fn(&Case, &mut Areas) -> u32;
+
+/// The jobs, by the names that callgrind is given: reading, picking and checking, by the proved picker and by the second one.
+pub const JOBS: [(&str, Job); 6] = [
+    ("proved_read", proved_read),
+    ("second_read", second_read),
+    ("proved_pick", proved_pick),
+    ("second_pick", second_pick),
+    ("proved_check", proved_check),
+    ("second_check", second_check),
+];
 
 /// A text without its end frame, which is read whole and then refused.
 pub fn without_end(text: &[u8]) -> &[u8] {
     &text[..text.len() - b"04FC\n".len()]
 }
 
-/// The proved picker reads: a text without its end frame is refused when all else is read.
 #[inline(never)]
-pub fn proved_read(text: &[u8], areas: &mut Areas) -> u32 {
-    proved_pick(without_end(text), areas)
+fn proved_read(case: &Case, areas: &mut Areas) -> u32 {
+    areas.pick(without_end(&case.text)).line.into()
 }
 
-/// The second picker reads the same.
 #[inline(never)]
-pub fn second_read(text: &[u8], _areas: &mut Areas) -> u32 {
-    second::read(without_end(text)).map_or_else(|refusal| refusal.line, |_| 0)
+fn second_read(case: &Case, _areas: &mut Areas) -> u32 {
+    second::read(without_end(&case.text)).map_or_else(|refusal| refusal.line, |_| 0)
 }
 
-/// The proved picker picks.
 #[inline(never)]
-pub fn proved_pick(text: &[u8], areas: &mut Areas) -> u32 {
+fn proved_pick(case: &Case, areas: &mut Areas) -> u32 {
+    areas.pick(&case.text).length.into()
+}
+
+#[inline(never)]
+fn second_pick(case: &Case, areas: &mut Areas) -> u32 {
     let Areas {
-        selection,
-        sheet,
-        work,
+        selection, sheet, ..
     } = areas;
-    let answer = proved::pick(text, selection, sheet, work, 480);
-    u32::from(answer.line) + u32::from(answer.length)
+    second::pick(&case.text, selection, sheet, WORK_AREA, 480).length as u32
 }
 
-/// The second picker picks.
 #[inline(never)]
-pub fn second_pick(text: &[u8], areas: &mut Areas) -> u32 {
-    let answer = second::pick(text, &mut areas.selection, &mut areas.sheet, WORK_AREA, 480);
-    answer.line + answer.length as u32
+fn proved_check(case: &Case, areas: &mut Areas) -> u32 {
+    areas.check(&case.text, &case.sheet).line.into()
+}
+
+#[inline(never)]
+fn second_check(case: &Case, _areas: &mut Areas) -> u32 {
+    second::check(&case.text, &case.sheet, WORK_AREA).line
 }

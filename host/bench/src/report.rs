@@ -1,8 +1,8 @@
 //! The report: tables on the screen and in docs/BENCHMARKS.md.
 
 use crate::counts::{self, instructions};
-use crate::jobs::{proved_pick, proved_read, second_pick, second_read};
-use crate::sets::{SETS, Set, trials};
+use crate::jobs::JOBS;
+use crate::sets::{Case, SETS, Set, trials};
 use crate::stack;
 use crate::times::{PASSES, best};
 use std::fmt::Write;
@@ -31,18 +31,25 @@ same work on the same texts in the same run. A ratio is the proved picker's figu
 
 ";
 
+/// The columns of a table: for each job the proved picker's figure, the second's and their ratio.
+const COLUMNS: &str = "
+| set | read: proved | second | ratio | pick: proved | second | ratio | check: proved | second | ratio |
+|---|---|---|---|---|---|---|---|---|---|
+";
+
 fn sets_table(page: &mut String) {
-    page.push_str("## Catalogues\n\n| set | what is in it | texts | trials of a text, on average |\n|---|---|---|---|\n");
+    page.push_str("## Catalogues\n\n| set | what is in it | texts | with a sheet | trials of a text, on average |\n|---|---|---|---|---|\n");
     for set in &SETS {
-        let texts = set.texts(u64::MAX);
-        let all: u64 = texts.iter().filter_map(|text| trials(text)).sum();
-        let mean = all / texts.len() as u64;
+        let cases = set.cases(u64::MAX);
+        let all: u64 = cases.iter().filter_map(|case| trials(&case.text)).sum();
+        let mean = all / cases.len() as u64;
+        let sheets = cases.iter().filter(|case| !case.sheet.is_empty()).count();
         let _ = writeln!(
             page,
-            "| {} | {} | {} | {mean} |",
+            "| {} | {} | {} | {sheets} | {mean} |",
             set.name,
             set.about,
-            texts.len()
+            cases.len()
         );
     }
 }
@@ -52,18 +59,23 @@ fn times_table(page: &mut String) {
         page,
         "\n## Times
 
-Microseconds for one text, the best of {PASSES} passes over the set, both pickers taking turns. A read is a pick on a text without its end frame, which is
-refused when all else is read. The areas are lent again from call to call; the proved picker clears its work area of 65,536 bytes in every call, and
-this is in its times. The second picker has none and allocates instead.
-
-| set | read: proved | second | ratio | pick: proved | second | ratio |\n|---|---|---|---|---|---|---|\n"
+Microseconds for one text, the best of {PASSES} passes over the set, all jobs taking turns. A read is a pick on a text without its end frame, which is
+refused when all else is read; a check is one of a sheet that the second picker finds. The areas are lent again from call to call; the proved
+picker clears its work area of 65,536 bytes in every call, and this is in its times. The second picker has none and allocates instead.\n{COLUMNS}"
     );
     for set in &SETS {
-        let texts = set.texts(u64::MAX);
-        let times = best(&texts, [proved_read, second_read, proved_pick, second_pick]);
-        let each = times.map(|time: Duration| time.as_secs_f64() * 1e6 / texts.len() as f64);
-        row(page, set.name, each, 1);
+        row(page, set.name, timed(&set.cases(u64::MAX)), 1);
     }
+}
+
+/// Microseconds for one case; checks are timed where there is a sheet.
+fn timed(cases: &[Case]) -> [f64; JOBS.len()] {
+    let all: Vec<&Case> = cases.iter().collect();
+    let sheets: Vec<&Case> = cases.iter().filter(|case| !case.sheet.is_empty()).collect();
+    let each = |time: Duration, cases: &[&Case]| time.as_secs_f64() * 1e6 / cases.len() as f64;
+    let [a, b, c, d, ..] = best(&all).map(|time| each(time, &all));
+    let [.., e, f] = best(&sheets).map(|time| each(time, &sheets));
+    [a, b, c, d, e, f]
 }
 
 fn counts_table(page: &mut String) {
@@ -72,9 +84,7 @@ fn counts_table(page: &mut String) {
         "\n## Instructions
 
 Counted by valgrind's callgrind for the first {} texts of each set, in thousands for one text. The C library is told to clear and copy without the
-string instructions, which callgrind counts once for each byte.
-
-| set | read: proved | second | ratio | pick: proved | second | ratio |\n|---|---|---|---|---|---|---|\n",
+string instructions, which callgrind counts once for each byte.\n{COLUMNS}",
         counts::TEXTS
     );
     for set in &SETS {
@@ -85,27 +95,38 @@ string instructions, which callgrind counts once for each byte.
     }
 }
 
-/// Thousands of instructions for one text.
-fn counted(set: &Set) -> Option<[f64; 4]> {
-    let texts = set.texts(counts::TEXTS).len() as f64;
-    let mut each = [0.0; 4];
-    for (slot, job) in
-        each.iter_mut()
-            .zip(["proved_read", "second_read", "proved_pick", "second_pick"])
-    {
-        *slot = instructions(job, set)? as f64 / 1e3 / texts;
+/// Thousands of instructions for one case; checks are counted where there is a sheet.
+fn counted(set: &Set) -> Option<[f64; JOBS.len()]> {
+    let cases = set.cases(counts::TEXTS);
+    let sheets = cases.iter().filter(|case| !case.sheet.is_empty()).count();
+    let mut each = [0.0; JOBS.len()];
+    for (slot, (job, _)) in each.iter_mut().zip(JOBS) {
+        let count = if job.ends_with("check") {
+            sheets
+        } else {
+            cases.len()
+        };
+        *slot = instructions(job, set)? as f64 / 1e3 / count as f64;
     }
     Some(each)
 }
 
-/// A row: read by both and their ratio, pick by both and theirs.
-fn row(page: &mut String, name: &str, [a, b, c, d]: [f64; 4], places: usize) {
-    let _ = writeln!(
-        page,
-        "| {name} | {a:.places$} | {b:.places$} | {:.2} | {c:.places$} | {d:.places$} | {:.2} |",
-        a / b,
-        c / d
-    );
+/// A row of figures, each pair with its ratio.
+fn row(page: &mut String, name: &str, figures: [f64; JOBS.len()], places: usize) {
+    let _ = write!(page, "| {name} |");
+    for pair in figures.chunks(2) {
+        let (proved, second) = (pair[0], pair[1]);
+        let _ = if proved.is_finite() {
+            write!(
+                page,
+                " {proved:.places$} | {second:.places$} | {:.2} |",
+                proved / second
+            )
+        } else {
+            write!(page, " none | none | |")
+        };
+    }
+    page.push('\n');
 }
 
 fn stack_lines(page: &mut String) {
@@ -115,13 +136,15 @@ fn stack_lines(page: &mut String) {
         page,
         "\n## Stack
 
-The smallest thread stack, in bytes and by pages of 4,096, on which the proved picks end; a run on a smaller one is ended by a signal. The figures
-hold the thread's own frames too. The deepest searches go through 32 modules, each of which needs the next.
+Bytes, to a page of 4,096: the smallest thread stack on which the proved calls end, less what a thread needs by itself, which a frame of known length
+tells. A run on a smaller stack is ended by a signal. The deepest searches go through 32 modules, each of which needs the next.
 
-| picks | stack |\n|---|---|
-| without a search: a root alone, refused texts, a text that is too long | {} |
-| with the deepest searches, with and without a valid selection, and with two catalogues of each set | {} |\n",
+| calls | stack |\n|---|---|
+| picks without a search: a root alone, refused texts, a text that is too long | {} |
+| picks with the deepest searches, with and without a valid selection, and with two catalogues of each set | {} |
+| checks of a sheet of 480 lines over the same catalogues | {} |\n",
         least("flat"),
-        least("deep")
+        least("deep"),
+        least("check")
     );
 }

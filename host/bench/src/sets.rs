@@ -44,14 +44,34 @@ pub const SETS: [Set; 4] = [
     },
 ];
 
+/// A catalogue's text, and the sheet that the second picker finds for it, or nothing.
+pub struct Case {
+    /// The catalogue's text.
+    pub text: Vec<u8>,
+    /// The sheet's text.
+    pub sheet: Vec<u8>,
+}
+
 impl Set {
-    /// The texts of the set's first seeds, at most so many.
-    pub fn texts(&self, most: u64) -> Vec<Vec<u8>> {
+    /// The cases of the set's first seeds, at most so many.
+    pub fn cases(&self, most: u64) -> Vec<Case> {
         (0..self.seeds.min(most))
             .map(self.make)
             .filter(|text| trials(text).is_some())
+            .map(|text| Case {
+                sheet: sheet_of(&text),
+                text,
+            })
             .collect()
     }
+}
+
+/// A sheet's text for a catalogue text without a valid selection, if one of 480 lines is found.
+fn sheet_of(text: &[u8]) -> Vec<u8> {
+    let sheet = second::read(text)
+        .ok()
+        .and_then(|catalogue| second::refute(&catalogue, 480));
+    sheet.map_or_else(Vec::new, |lines| second::sheet_text(&lines))
 }
 
 /// W of a good text, if it isn't above the most.

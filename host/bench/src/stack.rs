@@ -1,17 +1,27 @@
-//! The stack that a call needs: the smallest thread stack on which the deepest searches and the largest texts end.
+//! The stack that a call needs: the smallest thread stack on which the deepest searches, the largest texts and the longest sheets end.
 
-use crate::jobs::{Areas, proved_pick, without_end};
+use crate::jobs::{Areas, without_end};
 use crate::sets::SETS;
 use families::{Draft, DraftNeed};
-use second::Version;
+use second::{SheetLine, Version, sheet_text};
+use std::hint::black_box;
 use std::process::Command;
 use std::thread;
 
 /// A page of memory, by which stacks grow.
 const PAGE: usize = 4_096;
 
-/// The smallest stack, in bytes, on which all picks of a kind end; no more than 1 MiB is tried.
+/// Bytes of a frame that is known, to learn what a thread needs by itself.
+const KNOWN: usize = 10 * PAGE;
+
+/// The stack, in bytes, that all calls of a kind need, to a page: the smallest thread stack on which they end, less what a thread needs by itself.
 pub fn least(kind: &str) -> Option<usize> {
+    let own = smallest("known")?.checked_sub(KNOWN)?;
+    smallest(kind)?.checked_sub(own)
+}
+
+/// The smallest thread stack on which all calls of a kind end; no more than 1 MiB is tried.
+fn smallest(kind: &str) -> Option<usize> {
     (1..=256)
         .map(|pages| pages * PAGE)
         .find(|&bytes| ends_on(kind, bytes))
@@ -28,26 +38,46 @@ fn ends_on(kind: &str, bytes: usize) -> bool {
     run.is_ok_and(|output| output.status.success())
 }
 
-/// Picks on a thread with a stack of so many bytes. A stack that is too small ends the program by a signal.
+/// Calls on a thread with a stack of so many bytes. A stack that is too small ends the program by a signal.
 pub fn run_on(kind: &str, bytes: &str) {
-    let texts = if kind == "flat" { flat() } else { deep() };
     let mut areas = Areas::new();
-    let picks = move || {
-        texts
-            .iter()
-            .map(|text| proved_pick(text, &mut areas))
-            .sum::<u32>()
+    let (texts, sheet) = match kind {
+        "flat" => (flat(), None),
+        "deep" => (deep(), None),
+        _ => (deep(), Some(sheet_text(&[SheetLine::Need(0); 480]))),
+    };
+    let known = kind == "known";
+    let calls = move || {
+        if known {
+            return known_frame();
+        }
+        for text in &texts {
+            match &sheet {
+                Some(sheet) => areas.check(text, sheet),
+                None => areas.pick(text),
+            };
+        }
     };
     let size = bytes.parse().unwrap_or(PAGE);
-    let thread = thread::Builder::new().stack_size(size).spawn(picks);
+    let thread = thread::Builder::new().stack_size(size).spawn(calls);
     let _ = thread.expect("a thread starts").join();
 }
 
-/// Texts without a search: a root alone, a text that is too long, and the largest, each without its end.
+/// Fills a frame of the known length, and does nothing else.
+#[inline(never)]
+fn known_frame() {
+    black_box([1_u8; KNOWN]);
+}
+
+/// Texts without a search: a root alone, a text that is too long, and two of each set without their end.
 fn flat() -> Vec<Vec<u8>> {
     let mut texts = vec![Draft::with_root().text(), vec![b'0'; 32_769]];
     for set in SETS {
-        texts.extend(set.texts(2).iter().map(|text| without_end(text).to_vec()));
+        texts.extend(
+            set.cases(2)
+                .iter()
+                .map(|case| without_end(&case.text).to_vec()),
+        );
     }
     texts
 }
@@ -56,7 +86,7 @@ fn flat() -> Vec<Vec<u8>> {
 fn deep() -> Vec<Vec<u8>> {
     let mut texts = vec![chain(true), chain(false)];
     for set in SETS {
-        texts.extend(set.texts(2));
+        texts.extend(set.cases(2).into_iter().map(|case| case.text));
     }
     texts
 }

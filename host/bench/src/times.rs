@@ -1,21 +1,22 @@
-//! Times: the best of several passes over a set, both pickers in turn.
+//! Times: the best of several passes over a set, the jobs taking turns.
 
-use crate::jobs::{Areas, Job};
+use crate::jobs::{Areas, JOBS};
+use crate::sets::Case;
 use std::hint::black_box;
 use std::time::{Duration, Instant};
 
-/// Passes over a set, for each picker.
+/// Passes over a set, for each job.
 pub const PASSES: usize = 9;
 
-/// The best time of each job over a whole set, the jobs taking turns.
-pub fn best<const N: usize>(texts: &[Vec<u8>], jobs: [Job; N]) -> [Duration; N] {
-    let mut best = [Duration::MAX; N];
+/// The best time of each job over all cases.
+pub fn best(cases: &[&Case]) -> [Duration; JOBS.len()] {
+    let mut best = [Duration::MAX; JOBS.len()];
     let mut areas = Areas::new();
     for _ in 0..PASSES {
-        for (slot, job) in best.iter_mut().zip(jobs) {
+        for (slot, (_, job)) in best.iter_mut().zip(JOBS) {
             let start = Instant::now();
-            for text in texts {
-                black_box(job(black_box(text), &mut areas));
+            for case in cases {
+                black_box(job(black_box(case), &mut areas));
             }
             *slot = (*slot).min(start.elapsed());
         }

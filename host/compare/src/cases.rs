@@ -2,8 +2,10 @@
 
 use crate::picks::Lent;
 use families::{
-    Rng, circles, damaged_catalogue, easy, knotted, largest, overfull_root, tight, tiny,
+    Rng, circles, damaged_catalogue, damaged_sheet, easy, knotted, largest, overfull_root, tight,
+    tiny,
 };
+use second::{Catalogue, ModuleNo, SheetLine, read, refute, sheet_text};
 
 /// What is compared.
 #[derive(Clone, Copy, Debug, PartialEq, Eq)]
@@ -12,6 +14,8 @@ pub enum Kind {
     Good,
     /// Picks on damaged catalogues.
     Damaged,
+    /// Checks of sheets, good ones and damaged ones.
+    Sheets,
 }
 
 /// The catalogue of a seed: of a hundred, 64 easy or tight ones, 24 tiny ones or ones with circles, 11 knotted ones and one of the largest.
@@ -34,8 +38,9 @@ pub fn catalogue(seed: u64) -> Vec<u8> {
 pub fn text(kind: Kind, seed: u64) -> Vec<u8> {
     let text = catalogue(seed);
     match kind {
-        Kind::Good => text,
         Kind::Damaged => damaged_catalogue(&text, seed),
+        Kind::Sheets if seed % 25 == 7 => damaged_catalogue(&text, seed),
+        Kind::Good | Kind::Sheets => text,
     }
 }
 
@@ -57,4 +62,44 @@ pub fn lent(rng: &mut Rng) -> Lent {
             _ => 480,
         },
     }
+}
+
+/// The sheet of a seed for a catalogue text: one that refutes where there is one, else one made up; in two of three it is damaged.
+pub fn sheet(text: &[u8], seed: u64) -> Vec<u8> {
+    let mut rng = Rng::new(seed);
+    let lines = match read(text) {
+        Ok(catalogue) if rng.chance(7, 8) => {
+            refute(&catalogue, 480).unwrap_or_else(|| made_up(&catalogue, &mut rng))
+        }
+        Ok(catalogue) => made_up(&catalogue, &mut rng),
+        Err(_) => vec![SheetLine::Need(0)],
+    };
+    match seed % 3 {
+        0 => sheet_text(&lines),
+        _ => damaged_sheet(&sheet_text(&lines), seed),
+    }
+}
+
+/// Lines that fit a catalogue, up to 480 of them, most of them resolved from any two lines before.
+fn made_up(catalogue: &Catalogue, rng: &mut Rng) -> Vec<SheetLine> {
+    let most = if rng.chance(1, 50) { 480 } else { 12 };
+    let mut lines = Vec::new();
+    for at in 0..rng.between(1, most) {
+        let line = if at == 0 || rng.chance(2, 5) {
+            SheetLine::Need(rng.below(catalogue.needs().len()) as u16)
+        } else {
+            SheetLine::Resolved {
+                first: rng.below(at) as u16,
+                second: (at - 1) as u16,
+                module: ModuleNo(rng.below(catalogue.module_count().into()) as u8),
+            }
+        };
+        lines.push(line);
+    }
+    lines
+}
+
+/// The length of a work area that is lent to a check, mostly enough.
+pub fn work(rng: &mut Rng) -> usize {
+    lent(rng).work
 }

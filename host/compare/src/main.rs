@@ -1,4 +1,4 @@
-//! The long comparison: as many good catalogues, and as many damaged ones, as the argument says (10,000,000 in all without one).
+//! The long comparison: as many good catalogues, damaged ones, and sheets, as the argument says (10,000,000 of each without one).
 
 use compare::cases::Kind;
 use compare::run;
@@ -10,12 +10,12 @@ const STRETCH: u64 = 100_000;
 fn main() -> ExitCode {
     let asked = std::env::args()
         .nth(1)
-        .map_or(Ok(5_000_000), |word| word.parse());
+        .map_or(Ok(10_000_000), |word| word.parse());
     let Ok(count) = asked else {
         eprintln!("usage: compare [HOW MANY OF EACH KIND]");
         return ExitCode::from(2);
     };
-    for kind in [Kind::Good, Kind::Damaged] {
+    for kind in [Kind::Good, Kind::Damaged, Kind::Sheets] {
         for start in (0..count).step_by(STRETCH as usize) {
             let end = count.min(start + STRETCH);
             match run(kind, start..end) {

@@ -1,12 +1,12 @@
 //! One pick of the proved picker, held against the second picker's.
 
 use crate::area::Area;
+use crate::difference::{Difference, stands};
 use crate::proved::{self, Answer};
 use families::Rng;
 use second::calls::{SELECTION_AREA, SHEET_AREA, WORK_AREA};
 use second::refusal;
 use second::{Areas, check, pick_within, read, walk};
-use std::fmt;
 
 /// What is lent to a call beside the text.
 #[derive(Clone, Copy, Debug, PartialEq, Eq)]
@@ -33,29 +33,6 @@ impl Lent {
     }
 }
 
-/// A difference between the two pickers.
-#[derive(Clone, Debug)]
-pub struct Difference {
-    /// The catalogue text on which they differ.
-    pub text: Vec<u8>,
-    /// What was lent.
-    pub lent: Lent,
-    /// What differs.
-    pub what: String,
-}
-
-impl fmt::Display for Difference {
-    fn fmt(&self, f: &mut fmt::Formatter<'_>) -> fmt::Result {
-        writeln!(f, "{} (lent: {:?})", self.what, self.lent)?;
-        writeln!(
-            f,
-            "This catalogue, of {} bytes, shows it with ./pick:",
-            self.text.len()
-        )?;
-        f.write_str(&String::from_utf8_lossy(&self.text))
-    }
-}
-
 /// The second picker walks no further than this.
 const MOST_TRIALS: u64 = 100_000;
 
@@ -76,11 +53,13 @@ pub fn compare_pick(text: &[u8], lent: Lent, rng: &mut Rng) -> Result<Option<u8>
     );
     match call.judge(text, lent, answer, &wanted) {
         Ok(()) => Ok(Some(answer.number)),
-        Err(what) => Err(Box::new(Difference {
+        Err(what) => Err(Difference {
             text: text.to_vec(),
-            lent,
+            sheet: None,
+            lent: format!("{lent:?}"),
             what: format!("{what}; the proved picker answers {answer:?}"),
-        })),
+        }
+        .kept()),
     }
 }
 
@@ -185,15 +164,5 @@ impl Call {
             ));
         }
         stands("sheet", &self.sheet, sheet)
-    }
-}
-
-/// Whether an area holds `start` from its start on, and else what it held before.
-fn stands(name: &str, area: &Area, start: &[u8]) -> Result<(), String> {
-    match area.first_wrong(start) {
-        Some(at) => Err(format!(
-            "byte {at} of the {name} area, counted from its start, is wrong"
-        )),
-        None => Ok(()),
     }
 }

@@ -13,6 +13,15 @@ unsafe extern "C" {
         work_length: usize,
         allowance: u16,
     ) -> u64;
+
+    fn towerbasin_check(
+        text: *const u8,
+        text_length: usize,
+        sheet: *const u8,
+        sheet_length: usize,
+        work: *mut u8,
+        work_length: usize,
+    ) -> u64;
 }
 
 /// An answer taken apart.
@@ -64,6 +73,22 @@ pub fn pick(
             work.as_mut_ptr(),
             work.len(),
             allowance,
+        )
+    };
+    Answer::unpack(packed)
+}
+
+/// The checking call.
+pub fn check(text: &[u8], sheet: &[u8], work: &mut [u8]) -> Answer {
+    // SAFETY: each pointer comes with the length of the slice it is taken from, and the work area overlaps neither text.
+    let packed = unsafe {
+        towerbasin_check(
+            text.as_ptr(),
+            text.len(),
+            sheet.as_ptr(),
+            sheet.len(),
+            work.as_mut_ptr(),
+            work.len(),
         )
     };
     Answer::unpack(packed)

@@ -1,7 +1,9 @@
 //! A range of seeds compared on all processors.
 
 use crate::cases::{self, Kind};
-use crate::picks::{Difference, compare_pick};
+use crate::checks::compare_check;
+use crate::difference::Difference;
+use crate::picks::compare_pick;
 use families::Rng;
 use std::ops::Range;
 use std::sync::atomic::{AtomicU64, Ordering};
@@ -60,10 +62,21 @@ fn work(kind: Kind, next: &AtomicU64, end: u64) -> Result<Tally, Box<Difference>
             return Ok(tally);
         }
         for seed in start..end.min(start + PORTION) {
-            let text = cases::text(kind, seed);
-            let mut rng = Rng::new(!seed);
-            let lent = cases::lent(&mut rng);
-            tally.count(compare_pick(&text, lent, &mut rng)?);
+            tally.count(compare(kind, seed)?);
+        }
+    }
+}
+
+/// Compares the case of a seed; the number, if the case isn't skipped.
+fn compare(kind: Kind, seed: u64) -> Result<Option<u8>, Box<Difference>> {
+    let text = cases::text(kind, seed);
+    let mut rng = Rng::new(!seed);
+    match kind {
+        Kind::Good | Kind::Damaged => compare_pick(&text, cases::lent(&mut rng), &mut rng),
+        Kind::Sheets => {
+            let sheet = cases::sheet(&text, seed);
+            let work = cases::work(&mut rng);
+            compare_check(&text, &sheet, work, &mut rng).map(Some)
         }
     }
 }
