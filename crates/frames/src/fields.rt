@@ -7,16 +7,13 @@ use crate::numbers::Version;
 // The bytes of the longest frame.
 pub const LONGEST: usize = 9;
 
-// The frame with a byte more; a byte past the longest frame is dropped.
-pub fn put(frame: [u8; LONGEST], at: usize, byte: u8) -> [u8; LONGEST]
-    ensures { λ r. ⌜ r ≡ set frame at byte ⌝ }
+// Puts a byte more into the frame; a byte past the longest frame is dropped.
+pub fn put(frame: &mut [u8], at: usize, byte: u8)
+    ensures { λ r. ⌜ now (frame .exit) ≡ set (now (frame .entry)) at byte ⌝ }
 {
-    let mut next = frame;
-    if at < LONGEST {
-        next[at] = byte;
-        return next;
+    if at < frame.len() {
+        frame[at] = byte;
     }
-    next
 }
 
 // A byte of the frame; 0 past the longest frame.

@@ -108,8 +108,7 @@ fn read_lines<'a>(
             let pair = pair_at(text, at);
             match pair {
                 Pair::Byte(b) => {
-                    let longer = put(bytes_read, bytes, b);
-                    bytes_read = longer;
+                    put(&mut bytes_read, bytes, b);
                     bytes += 1;
                     sum = (sum + b as u32) % 256;
                     at += 2;

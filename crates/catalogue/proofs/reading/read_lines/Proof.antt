@@ -89,17 +89,17 @@ module _ (c : AtDigits) where
 
 -- AFTER A PAIR OF DIGITS
 abbrev AfterByte : Type 0
-AfterByte = tie.After-put Inv-digits μ-digits Inv-lines μ-lines
+AfterByte = tie.After-bytes-read2 Inv-digits μ-digits Inv-lines μ-lines
 
 module _ (c : AfterByte) where
   abbrev digits-of-byte : AtDigits
-  digits-of-byte = c .before .before .before .before .before
+  digits-of-byte = c .before .before .before .before .before .before .before
 
   abbrev byte-got : ℕ
-  byte-got = c .before .before .pair .given .0 .0
+  byte-got = c .before .before .before .before .pair .given .0 .0
 
   byte-there : pairAt (text (line-of-digits digits-of-byte)) (digits-of-byte .digits .at) ≡ Byte byte-got
-  byte-there = sym (c .before .before .before .before .pair-at .ensures) ∙ c .before .before .pair .given .1
+  byte-there = sym (c .before .before .before .before .before .before .pair-at .ensures) ∙ c .before .before .before .before .pair .given .1
 
   byte-within : digits-of-byte .digits .at + 2 ≤ length (text (line-of-digits digits-of-byte))
   byte-within = byte-stands _ _ _ byte-there .within
@@ -235,6 +235,10 @@ pair-at-requires c κs = search needs
 enum-known-pair : tie.Need-enum-known-pair Inv-digits μ-digits Inv-lines μ-lines
 enum-known-pair c = search needs
 
+-- the frame lent as a slice has the size of the longest frame
+slice-aggregate-put : tie.Need-slice-aggregate-put Inv-digits μ-digits Inv-lines μ-lines
+slice-aggregate-put c = sym (in-line (c .before .before .before .before .before) .size)
+
 put-requires : tie.Need-put-requires Inv-digits μ-digits Inv-lines μ-lines
 put-requires c κs = search needs
 
@@ -260,7 +264,7 @@ digits-again c =
     let total = (d .digits .sum + byte-got c) % 256 in
     let longer = line-byte _ _ _ _ _ _ (in-line d) _ (byte-there c) in (
       d .digits .inv .0,
-      subst (λ (f : List ℕ). InLine (text l) (l .lines .at) (d .digits .at + 2) f (d .digits .bytes + 1) total) (sym (c .put .ensures)) longer,
+      subst (λ (f : List ℕ). InLine (text l) (l .lines .at) (d .digits .at + 2) f (d .digits .bytes + 1) total) (sym (c .before .put .ensures)) longer,
     )
 
 -- AT A LINE'S END
@@ -414,6 +418,7 @@ read-lines-spec =
     digits-holds
     pair-at-requires
     enum-known-pair
+    slice-aggregate-put
     put-requires
     add-bytes
     cast-sum
