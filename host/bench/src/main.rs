@@ -4,6 +4,7 @@
 
 mod counts;
 mod jobs;
+mod plain;
 mod report;
 mod sets;
 mod stack;

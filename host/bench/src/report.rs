@@ -2,9 +2,10 @@
 
 use crate::counts::{self, instructions};
 use crate::jobs::JOBS;
+use crate::plain::Plain;
 use crate::sets::{Case, SETS, Set, trials};
 use crate::stack;
-use crate::times::{PASSES, best};
+use crate::times::{PASSES, best, walks};
 use std::fmt::Write;
 use std::fs;
 use std::path::Path;
@@ -15,6 +16,7 @@ pub fn write() {
     let mut page = String::from(HEAD);
     sets_table(&mut page);
     times_table(&mut page);
+    trials_table(&mut page);
     counts_table(&mut page);
     stack_lines(&mut page);
     print!("{page}");
@@ -65,6 +67,42 @@ picker clears its work area of 65,536 bytes in every call, and this is in its ti
     );
     for set in &SETS {
         row(page, set.name, timed(&set.cases(u64::MAX)), 1);
+    }
+}
+
+fn trials_table(page: &mut String) {
+    let _ = write!(
+        page,
+        "\n## Trials
+
+Nanoseconds for one trial, from the best of {PASSES} passes. The proved picker's figure is a pick less a read, so it holds the writing of selections and sheets as well. A plain walk in Rust
+(host/bench/src/plain.rs) does what the rules say over plain arrays, and writes nothing; the second picker's walk keeps sets of bits instead of looking through
+needs, so its trials cost next to nothing. The ratio is to the plain walk.
+
+| set | proved | plain walk | ratio | second's walk |\n|---|---|---|---|---|\n"
+    );
+    for set in &SETS {
+        let cases = set.cases(u64::MAX);
+        let all: Vec<&Case> = cases.iter().collect();
+        let catalogues: Vec<_> = cases
+            .iter()
+            .filter_map(|case| second::read(&case.text).ok())
+            .collect();
+        let plain: Vec<Plain> = catalogues.iter().map(Plain::of).collect();
+        let trials: u64 = plain.iter().map(|one| one.walk().1).sum();
+        let each = |time: Duration| time.as_secs_f64() * 1e9 / trials as f64;
+        let [read, _, pick, ..] = best(&all).map(each);
+        let plain = each(walks(&plain, |one| one.walk().1));
+        let second = each(walks(&catalogues, |one| {
+            second::walk::walk(one, None).trials
+        }));
+        let proved = pick - read;
+        let _ = writeln!(
+            page,
+            "| {} | {proved:.1} | {plain:.1} | {:.2} | {second:.1} |",
+            set.name,
+            proved / plain
+        );
     }
 }
 

@@ -23,3 +23,15 @@ pub fn best(cases: &[&Case]) -> [Duration; JOBS.len()] {
     }
     best
 }
+
+/// The best time of one walk over each of several catalogues.
+pub fn walks<T>(all: &[T], walk: fn(&T) -> u64) -> Duration {
+    let pass = || {
+        let start = Instant::now();
+        for one in all {
+            black_box(walk(black_box(one)));
+        }
+        start.elapsed()
+    };
+    (0..PASSES).map(|_| pass()).min().unwrap_or(Duration::MAX)
+}
