@@ -30,11 +30,17 @@ fn put_byte(area: &mut [u8], i: usize, x: u8)
     }
 }
 
-// A word of a row.
+// A word of a row. One that lies whole in the area, as every word of a row that was written does, is read without asking byte by byte.
 pub fn word_at(area: &[u8], row: u16, word: u16) -> u32
     ensures { λ r. ⌜ r ≡ wordAt (now (area .entry)) row word ⌝ }
 {
     let at = ROW_BYTES * row as usize + WORD_BYTES * word as usize;
+    if at + 3 < area.len() {
+        return area[at] as u32 * 16777216
+            + area[at + 1] as u32 * 65536
+            + area[at + 2] as u32 * 256
+            + area[at + 3] as u32;
+    }
     let first = byte_at(area, at) as u32;
     let second = byte_at(area, at + 1) as u32;
     let third = byte_at(area, at + 2) as u32;
