@@ -7,3 +7,4 @@ pub mod Readings
 pub mod Outcomes
 pub mod Answers
 pub mod Judgements
+pub mod ToldLines

@@ -48,3 +48,10 @@ CheckedNone = (t h w : List ℕ) → workLeast ≤ length w → checkOf t h w .n
 abbrev pub AcceptsPicked : Type 0
 AcceptsPicked = (t s h w : List ℕ) (a : ℕ) (r : Picked) (u v x y : List ℕ) → areasFit s h w a ≡ true → PickOwes t s h w a r u v x → r .number ≡ 9 →
     workLeast ≤ length y → checkOf t (take (r .size) v) y ≡ checked fine 0
+
+-- THE LINE that either call tells is no more than one past the bytes of the longest text, so two bytes hold it
+abbrev pub PickLine : Type 0
+PickLine = (t s h w : List ℕ) (a : ℕ) (r : Picked) (u v x : List ℕ) → PickOwes t s h w a r u v x → r .line ≤ 32769
+
+abbrev pub CheckLine : Type 0
+CheckLine = (t h w : List ℕ) → checkOf t h w .line ≤ 32769
