@@ -1,18 +1,18 @@
 -- Laws of the scans: what each call is told, and that a scan from where a loop stands finds what the whole scan finds.
 -- Assumes nothing.
-use mathlib.Core.Path.{_≡_, sym, _∙_, ap}
-use mathlib.Core.Logic.{_⊎_, inl, inr, _≢_}
+use mathlib.Core.Path.{_≡_, refl, sym, _∙_, ap}
+use mathlib.Core.Logic.{_≢_}
 use mathlib.Core.Bool.{Bool, true, false, _&&_, not, cond}
 use mathlib.Core.List.{List}
 use Prim.Native.Nat.{ℕ, zero, suc, _+_, _-_, _≤_, _<_}
 use native.Mathlib.Omega.{arith}
 use native.Mathlib.Numerals.{add-one, unary-clauses}
 use native.Mathlib.Nat.{not-suc-le-zero}
-use borrow.Author.Tests.{not-true, eqb-true, eq-eqb, ne-eqb}
+use borrow.Author.Tests.{eq-eqb, ne-eqb}
 use lib.Dec.{eqb}
 use lib.ListN.{getD}
 use Rattle.rules.specs.Catalogue.{isWithin}
-use Rattle.rules.proofs.Lists.{and-fst, and-snd, not-both, cond-true, cond-false}
+use Rattle.rules.proofs.Lists.{cond-true, cond-false}
 use Rattle.frames.specs.declared.numbers.Version.{Version}
 use Rattle.store.specs.Frame.{version}
 use Rattle.store.specs.Tables.{needsIn}
@@ -48,33 +48,31 @@ module _ (values targets lows highs chosen : List ℕ) (m x k : ℕ) {own : Bool
     told-another n =
         sym (cond-false _ _ e ∙ ap (λ (b : Bool). b && leavesOutIn values lows highs k x) (ne-eqb (getD targets k 0) m (λ q. n (t ∙ q))))
 
--- the needs of the version that a module holds while module m is tried at place i
-module _ (values starts marks targets lows highs chosen : List ℕ) (m i k : ℕ) {other : ℕ} (is-other : other ≡ getD chosen k 0) where
-  abbrev test : ℕ → Bool
-  test = barsIn values targets lows highs chosen (eqb k m) m (suc i)
+-- the needs of the version that a module holds while module m is tried at place i: its own, or what is chosen
+module _ (values starts marks targets lows highs chosen : List ℕ) (m i k : ℕ) where
+  abbrev test : (own : Bool) → ℕ → Bool
+  test own = barsIn values targets lows highs chosen own m (suc i)
 
-  holds : {x : ℕ} → cond (eqb k m) (suc i) (getD chosen k 0) ≡ x →
-      scanIn values starts marks targets lows highs chosen m (suc i) k ≡ scanState starts marks test x
-  holds e = ap (scanState starts marks test) e
+  -- a scan by what is known of the module, and of its state
+  scans : (own : Bool) → eqb k m ≡ own → (x : ℕ) → cond own (suc i) (getD chosen k 0) ≡ x →
+      scanIn values starts marks targets lows highs chosen m (suc i) k ≡ scanState starts marks (test own) x
+  scans own e x f =
+      ap (λ (b : Bool). scanState starts marks (test b) (cond b (suc i) (getD chosen k 0))) e ∙ ap (scanState starts marks (test own)) f
 
-  pub told-nothing : (not (eqb k m) && eqb other 0) ≡ true → noNumber ≡ scanIn values starts marks targets lows highs chosen m (suc i) k
-  told-nothing e =
-      let another = not-true (eqb k m) (and-fst _ _ e) in
-      let none = eqb-true other 0 (and-snd (not (eqb k m)) _ e) in
-      sym (holds (cond-false _ _ another ∙ sym is-other ∙ none))
+  module _ {needs : Span} {r : ℕ} where
+    pub told-own-scan : k ≡ m → needs ≡ needsIn starts marks i → r ≡ firstIn (test true) (needs .first) (needs .count) →
+        r ≡ scanIn values starts marks targets lows highs chosen m (suc i) k
+    told-own-scan e p q = q ∙ ap (λ (n : Span). firstIn (test true) (n .first) (n .count)) p ∙ sym (scans true (eq-eqb k m e) (suc i) refl)
 
-  -- where it is another module's, that has a version chosen
-  pub told-some : (not (eqb k m) && eqb other 0) ≡ false → eqb k m ≡ false → other ≢ 0
-  told-some e n z = not-both (rw (n, z)) e
+    pub told-scan : k ≢ m → {other : ℕ} → other ≡ getD chosen k 0 → other ≢ 0 → needs ≡ needsIn starts marks (other - 1) →
+        r ≡ firstIn (test false) (needs .first) (needs .count) → r ≡ scanIn values starts marks targets lows highs chosen m (suc i) k
+    told-scan n {other} is-other some p q =
+        q ∙ ap (λ (x : Span). firstIn (test false) (x .first) (x .count)) p ∙
+        sym (scans false (ne-eqb k m n) (suc (other - 1)) (sym is-other ∙ sym (one-back other some)))
 
-  pub told-scan : (not (eqb k m) && eqb other 0) ≡ false → {held : ℕ} → ((eqb k m ≡ true) × (held ≡ i)) ⊎ ((eqb k m ≡ false) × (held ≡ other - 1)) →
-      {needs : Span} → needs ≡ needsIn starts marks held → {r : ℕ} → r ≡ firstIn test (needs .first) (needs .count) →
-      r ≡ scanIn values starts marks targets lows highs chosen m (suc i) k
-  told-scan e {held} h p q = q ∙ ap (λ (n : Span). firstIn test (n .first) (n .count)) p ∙ sym (holds (state h))
-    where
-      state : ((eqb k m ≡ true) × (held ≡ i)) ⊎ ((eqb k m ≡ false) × (held ≡ other - 1)) → cond (eqb k m) (suc i) (getD chosen k 0) ≡ suc held
-      state (inl (n, z)) = cond-true _ _ n ∙ ap suc (sym z)
-      state (inr (n, z)) = cond-false _ _ n ∙ sym is-other ∙ sym (one-back other (told-some e n)) ∙ ap suc (sym z)
+  pub told-nothing : k ≢ m → {other : ℕ} → other ≡ getD chosen k 0 → other ≡ 0 →
+      noNumber ≡ scanIn values starts marks targets lows highs chosen m (suc i) k
+  told-nothing n is-other z = sym (scans false (ne-eqb k m n) 0 (sym is-other ∙ z))
 
 -- what a whole scan finds is what the scan from here to the end finds
 pub record Left (scan : ℕ → ℕ → ℕ) (whole end here : ℕ) : Type 0 where

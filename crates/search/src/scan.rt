@@ -101,20 +101,33 @@ pub fn scan_module<'a>(
     ensures { λ r. ⌜ r ≡ scanIn (now (values .entry)) (now (starts .entry)) (now (marks .entry)) (now (targets .entry)) (now (lows .entry))
         (now (highs .entry)) (now (chosen .entry)) (m .0) (suc (p .0)) (k .0) ⌝ }
 {
-    let own = k.0 == m.0;
+    if k.0 == m.0 {
+        let own = lookup::needs_of(starts, marks, p);
+        return first_bar(
+            values,
+            targets,
+            lows,
+            highs,
+            chosen,
+            true,
+            m,
+            p,
+            own.first,
+            own.count,
+        );
+    }
     let other = access::half_at(chosen, k.0 as usize);
-    if !own & (other == 0) {
+    if other == 0 {
         return NONE;
     }
-    let held = if own { p.0 } else { other - 1 };
-    let needs = lookup::needs_of(starts, marks, Place(held));
+    let needs = lookup::needs_of(starts, marks, Place(other - 1));
     first_bar(
         values,
         targets,
         lows,
         highs,
         chosen,
-        own,
+        false,
         m,
         p,
         needs.first,
