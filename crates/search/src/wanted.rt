@@ -12,8 +12,8 @@ pub const NO_MODULE: u16 = 65535;
 
 // A module to choose, and the number of the first need that asks for it; NO_MODULE and NONE where nothing is wanted.
 pub struct Wanted {
-    pub owner: ModuleNo,
     pub need: u32,
+    pub owner: ModuleNo,
 }
 
 // Nothing is wanted.
