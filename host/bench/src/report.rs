@@ -75,9 +75,10 @@ fn trials_table(page: &mut String) {
         page,
         "\n## Trials
 
-Nanoseconds for one trial, from the best of {PASSES} passes. The proved picker's figure is a pick less a read, so it holds the writing of selections and sheets as well. A plain walk in Rust
-(host/bench/src/plain.rs) does what the rules say over plain arrays, and writes nothing; the second picker's walk keeps sets of bits instead of looking through
-needs, so its trials cost next to nothing. The ratio is to the plain walk.
+Nanoseconds for one trial, from the best of {PASSES} passes. The proved picker's figure is a pick less a read, so it holds the writing of selections and
+sheets as well. A plain walk in Rust (host/bench/src/plain.rs) does what the rules say over plain arrays, and writes nothing. The second picker's walk
+first turns all needs into sets of bits, which is most of its time where the trials are few, and then hardly looks at a need. The ratio is to the
+plain walk.
 
 | set | proved | plain walk | ratio | second's walk |\n|---|---|---|---|---|\n"
     );
