@@ -21,14 +21,19 @@ impl Areas {
         }
     }
 
-    /// Picks with the proved picker.
+    /// Picks with the proved picker and the largest allowance.
     pub fn pick(&mut self, text: &[u8]) -> proved::Answer {
+        self.pick_with(text, 480)
+    }
+
+    /// Picks with the proved picker and an allowance.
+    pub fn pick_with(&mut self, text: &[u8], allowance: u16) -> proved::Answer {
         let Areas {
             selection,
             sheet,
             work,
         } = self;
-        proved::pick(text, selection, sheet, work, 480)
+        proved::pick(text, selection, sheet, work, allowance)
     }
 
     /// Checks with the proved checker.

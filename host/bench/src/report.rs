@@ -1,11 +1,12 @@
 //! The report: tables on the screen and in docs/BENCHMARKS.md.
 
 use crate::counts::{self, instructions};
-use crate::jobs::JOBS;
+use crate::jobs::{Areas, JOBS, without_end};
 use crate::plain::Plain;
 use crate::sets::{Case, SETS, Set, trials};
 use crate::stack;
-use crate::times::{PASSES, best, walks};
+use crate::times::{PASSES, best, best_each};
+use second::walk::walk;
 use std::fmt::Write;
 use std::fs;
 use std::path::Path;
@@ -75,29 +76,25 @@ fn trials_table(page: &mut String) {
         page,
         "\n## Trials
 
-Nanoseconds for one trial, from the best of {PASSES} passes. The proved picker's figure is a pick less a read, so it holds the writing of selections and
-sheets as well. A plain walk in Rust (host/bench/src/plain.rs) does what the rules say over plain arrays, and writes nothing. The second picker's walk
-first turns all needs into sets of bits, which is most of its time where the trials are few, and then hardly looks at a need. The ratio is to the
-plain walk.
+Nanoseconds for one trial, from the best of {PASSES} passes. The proved picker's figure is a pick with allowance 0, so that no line is noted, less a read; it
+holds the writing of selections. A plain walk in Rust (host/bench/src/plain.rs) does what the rules say over plain arrays, and writes nothing. The second
+picker's walk first turns all needs into sets of bits, which is most of its time where the trials are few, and then hardly looks at a need. The ratio
+is to the plain walk.
 
 | set | proved | plain walk | ratio | second's walk |\n|---|---|---|---|---|\n"
     );
     for set in &SETS {
         let cases = set.cases(u64::MAX);
-        let all: Vec<&Case> = cases.iter().collect();
         let catalogues: Vec<_> = cases
             .iter()
             .filter_map(|case| second::read(&case.text).ok())
             .collect();
-        let plain: Vec<Plain> = catalogues.iter().map(Plain::of).collect();
-        let trials: u64 = plain.iter().map(|one| one.walk().1).sum();
+        let walks: Vec<Plain> = catalogues.iter().map(Plain::of).collect();
+        let trials: u64 = walks.iter().map(|one| one.walk().1).sum();
         let each = |time: Duration| time.as_secs_f64() * 1e9 / trials as f64;
-        let [read, _, pick, ..] = best(&all).map(each);
-        let plain = each(walks(&plain, |one| one.walk().1));
-        let second = each(walks(&catalogues, |one| {
-            second::walk::walk(one, None).trials
-        }));
-        let proved = pick - read;
+        let plain = each(best_each(&walks, |one| one.walk().1));
+        let second = each(best_each(&catalogues, |one| walk(one, None).trials));
+        let proved = each(searched(&cases));
         let _ = writeln!(
             page,
             "| {} | {proved:.1} | {plain:.1} | {:.2} | {second:.1} |",
@@ -105,6 +102,16 @@ plain walk.
             proved / plain
         );
     }
+}
+
+/// The best time of the proved picker's searches over all cases: picks with allowance 0, less what reading takes.
+fn searched(cases: &[Case]) -> Duration {
+    let mut areas = Areas::new();
+    let picks = best_each(cases, |case| areas.pick_with(&case.text, 0).line.into());
+    let reads = best_each(cases, |case| {
+        areas.pick_with(without_end(&case.text), 0).line.into()
+    });
+    picks.saturating_sub(reads)
 }
 
 /// Microseconds for one case; checks are timed where there is a sheet.

@@ -24,12 +24,12 @@ pub fn best(cases: &[&Case]) -> [Duration; JOBS.len()] {
     best
 }
 
-/// The best time of one walk over each of several catalogues.
-pub fn walks<T>(all: &[T], walk: fn(&T) -> u64) -> Duration {
-    let pass = || {
+/// The best time of a job done once for each of several things.
+pub fn best_each<T>(all: &[T], mut job: impl FnMut(&T) -> u64) -> Duration {
+    let mut pass = || {
         let start = Instant::now();
         for one in all {
-            black_box(walk(black_box(one)));
+            black_box(job(black_box(one)));
         }
         start.elapsed()
     };
