@@ -33,7 +33,7 @@ use Rattle.picker.specs.Written.{sheetIn}
 use Rattle.picker.proofs.Turns.{stored-over}
 use Rattle.picker.proofs.Sheets.{sheet-length, sheet-is-the-rules, lines-short}
 use Rattle.picker.proofs.Readings.{ReadWell, read-fine, read-well}
-use Rattle.picker.proofs.Outcomes.{linesOf, SheetLeft, found-best, found-none, over-small, sheet-left}
+use Rattle.picker.proofs.Outcomes.{sheetLines, SheetLeft, found-best, found-none, over-small, sheet-left}
 
 -- FITTING AREAS have room
 pub has-room : (s h w : List ℕ) (a : ℕ) → areasFit s h w a ≡ true → HasRoom s h w a
@@ -112,7 +112,7 @@ module _ {text s h w : List ℕ} {a : ℕ} {l : Lines} (k : Known text s h w a l
       none-best = found-none (k .well) a w is-told not-found
 
       -- the sheet's lines are 2W + 1
-      count-lines : length (linesOf c) ≡ 2 * trialsOf c + 1
+      count-lines : length (sheetLines c) ≡ 2 * trialsOf c + 1
       count-lines = sheets-tell c (k .well .well-formed) .0 none-best .0
 
       of-sheet : {r : Picked} {v : List ℕ} → SheetOwes c h a r v → ReadOwes text s h a r s v
@@ -140,14 +140,14 @@ module _ {text s h w : List ℕ} {a : ℕ} {l : Lines} (k : Known text s h w a l
 
         -- its lines' text, and with head and end its whole text, has room in the areas
         pub lines-fit : f .noted .end ≤ 7200
-        lines-fit = omega (arith, left .ends, left .within, lines-short (linesOf c), k .room .few-lines)
+        lines-fit = omega (arith, left .ends, left .within, lines-short (sheetLines c), k .room .few-lines)
 
         pub sheet-fits : length (sheetFrom f area) ≤ sheetLeast
         sheet-fits =
             rw (sheet-length (take (f .noted .end) area) (f .noted .lines), left .text) (omega (arith, lines-fit, left .ends))
 
-        rules-sheet : sheetFrom f area ≡ sheetText (linesOf c)
-        rules-sheet = ap₂ sheetIn (left .text) (left .count) ∙ sheet-is-the-rules (linesOf c) (omega (arith, left .within, k .room .few-lines))
+        rules-sheet : sheetFrom f area ≡ sheetText (sheetLines c)
+        rules-sheet = ap₂ sheetIn (left .text) (left .count) ∙ sheet-is-the-rules (sheetLines c) (omega (arith, left .within, k .room .few-lines))
 
         pub sheeted : {r : Picked} {v : List ℕ} {size : ℕ} → size ≡ length (sheetFrom f area) → v ≡ sets h 0 (sheetFrom f area) →
             r ≡ picked (fault 9 0) size → ReadOwes text s h a r s v
@@ -167,7 +167,7 @@ module _ {text s h w : List ℕ} {a : ℕ} {l : Lines} (k : Known text s h w a l
             is-written : SheetWritten c h a r v
             is-written =
                 record {
-                  entries = linesOf c;
+                  entries = sheetLines c;
                   refutes = sheets-tell c (k .well .well-formed) .0 none-best .1 (omega (arith, count-lines, left .within, k .room .few-lines));
                   within = left .within;
                   size = ap (λ (x : Picked). x .size) p ∙ n ∙ ap length rules-sheet;

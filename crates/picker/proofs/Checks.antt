@@ -11,21 +11,19 @@ use lib.Seq.{take-at}
 use borrow.Author.Tests.{le-leb, eqb-true, eqb-false}
 use Rattle.rules.specs.Lines.{fine}
 use Rattle.rules.specs.Frames.{sheets, catalogues}
-use Rattle.rules.specs.Catalogue.{Catalogue, WellFormed, Carried, CarriedLimits, limits}
+use Rattle.rules.specs.Catalogue.{Catalogue, WellFormed, Carried, limits}
 use Rattle.rules.specs.Catalogue.{textFault, catalogueOf}
 use Rattle.rules.specs.Selection.{Selection}
 use Rattle.rules.specs.Search.{best}
 use Rattle.rules.specs.Sheet.{Entry, refutes, isRefuting, sheetFault, sheetText}
 use Rattle.rules.proofs.Lists.{cond-true}
+use Rattle.rules.proofs.Reading.{limits-carried}
 use Rattle.rules.proofs.Theorems.{reads-well-formed, accepts-exactly, sheets-tell, picks-valid}
 use Rattle.picker.specs.Entry.{workLeast, isFine, OutcomeOwes, ReadOwes}
 use Rattle.picker.specs.Checking.{checked, checkedBy, checkOn, checkOf, ChecksExactly, CheckedNone, AcceptsPicked}
 use Rattle.picker.specs.declared.Checked.{Checked}
 use Rattle.picker.specs.declared.Picked.{Picked}
 use Rattle.picker.proofs.Numbers.{text-fine, text-most, sheet-fine}
-
-carried-limits : CarriedLimits limits
-carried-limits = record { needs = omega arith; sheets = omega arith }
 
 -- CHECK where the work area is long enough
 long-enough : (t h w : List ℕ) → workLeast ≤ length w → checkOf t h w ≡ checkOn t h
@@ -47,7 +45,7 @@ only-accepted t h = go (isFine (textFault limits t)) refl
     go false e z = absurd (eqb-false _ 0 e z)
 
 read-well : (t : List ℕ) → textFault limits t ≡ fine → WellFormed (catalogueOf limits t) × Carried (catalogueOf limits t)
-read-well t e = reads-well-formed limits t carried-limits e
+read-well t e = reads-well-formed limits t limits-carried e
 
 pub checks-exactly : ChecksExactly
 checks-exactly t h w l = (told, back)
@@ -58,12 +56,12 @@ checks-exactly t h w l = (told, back)
     told : checkOf t h w .number ≡ 0 → (textFault limits t ≡ fine) × ((es : List Entry) × (isRefuting c es ≡ true) × (h ≡ sheetText es))
     told z =
         let both = only-accepted t h (ap (λ (x : Checked). x .number) (sym (long-enough t h w l)) ∙ z) in
-        (both .0, accepts-exactly limits c h carried-limits (read-well t (both .0) .1) .0 (both .1))
+        (both .0, accepts-exactly limits c h limits-carried (read-well t (both .0) .1) .0 (both .1))
 
     back : (textFault limits t ≡ fine) × ((es : List Entry) × (isRefuting c es ≡ true) × (h ≡ sheetText es)) → checkOf t h w .number ≡ 0
     back (e, s) =
         ap (λ (x : Checked). x .number)
-        (long-enough t h w l ∙ accepted t h e (accepts-exactly limits c h carried-limits (read-well t e .1) .1 s))
+        (long-enough t h w l ∙ accepted t h e (accepts-exactly limits c h limits-carried (read-well t e .1) .1 s))
 
 pub checked-none : CheckedNone
 checked-none t h w l z =
@@ -94,7 +92,7 @@ accepts-picked t s h w a r u v x y fits owes nine l = go (isFine (textFault limi
         let es = sheet .entries in
         let is-text : take (r .size) v ≡ sheetText es =
         ap (take (r .size)) (sheet .text) ∙ take-at (sheetText es) (drop (length (sheetText es)) h) (r .size) (sym (sheet .size)) in
-        let accepts = accepts-exactly limits c (take (r .size) v) carried-limits (read-well t e .1) .1 (es, sheet .refutes, is-text) in
+        let accepts = accepts-exactly limits c (take (r .size) v) limits-carried (read-well t e .1) .1 (es, sheet .refutes, is-text) in
         long-enough t (take (r .size) v) y l ∙ accepted t (take (r .size) v) e accepts
     outcome (some z) owed e =
         let number = ap (λ (p : Picked). p .number) (owed .0) in

@@ -29,15 +29,16 @@ use Rattle.picker.proofs.Readings.{ReadWell}
 use Rattle.picker.proofs.Turns.{stored-over}
 use Rattle.picker.proofs.Sheets.{lines-short}
 
-abbrev pub linesOf : Catalogue → List Entry
-linesOf c = sheetOf c (newestFirst c)
+-- the lines that a failing search leaves
+abbrev pub sheetLines : Catalogue → List Entry
+sheetLines c = sheetOf c (newestFirst c)
 
 -- THE SHEET LEFT: all its lines are within the allowance, and their text is noted
 pub record SheetLeft (c : Catalogue) (allowance : ℕ) (f : Found) (area : List ℕ) : Type 0 where
-  pub within : length (linesOf c) ≤ allowance
-  pub count : f .noted .lines ≡ length (linesOf c)
-  pub ends : f .noted .end ≡ length (flatMap entryText (linesOf c))
-  pub text : take (f .noted .end) area ≡ flatMap entryText (linesOf c)
+  pub within : length (sheetLines c) ≤ allowance
+  pub count : f .noted .lines ≡ length (sheetLines c)
+  pub ends : f .noted .end ≡ length (flatMap entryText (sheetLines c))
+  pub text : take (f .noted .end) area ≡ flatMap entryText (sheetLines c)
 
 module _ {l : Lines} {c : Catalogue} (k : ReadWell l c) (a : ℕ) (work : List ℕ) {f : Found}
     (is-told : f ≡ told (searchOf (l .tables) (l .state .modules) a work)) where
@@ -77,7 +78,7 @@ module _ {l : Lines} {c : Catalogue} (k : ReadWell l c) (a : ℕ) (work : List �
 
   module _ (e : best c ≡ none) (small : a ≤ mostLines) (room : workLeast ≤ length work) where
     abbrev lines : List Entry
-    lines = linesOf c
+    lines = sheetLines c
 
     abbrev text : List ℕ
     text = flatMap entryText lines

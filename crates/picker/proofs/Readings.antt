@@ -8,6 +8,7 @@ use lib.ListN.{length, getD}
 use Rattle.rules.specs.Lines.{Fault, fine}
 use Rattle.rules.specs.Catalogue.{Catalogue, limits, textFault, catalogueOf, WellFormed, Carried}
 use Rattle.rules.proofs.Lists.{mem-upFrom, keep-mem, below-mem, length-upFrom}
+use Rattle.rules.proofs.Reading.{limits-carried}
 use Rattle.rules.proofs.Theorems.{reads-well-formed}
 use Rattle.store.specs.declared.frame.State.{State}
 use Rattle.store.specs.Tables.{Holds}
@@ -45,7 +46,7 @@ module _ (text : List ℕ) (l : Lines) (read : CatalogueRead text l) (good : l .
       reached-is = read-whole text read-fine
 
       well : WellFormed (catalogueOf limits text) × Carried (catalogueOf limits text)
-      well = reads-well-formed limits text (record { needs = omega arith; sheets = omega arith }) read-fine
+      well = reads-well-formed limits text limits-carried read-fine
 
 -- PLACES of a module's versions are below the number of versions, which 16 bits hold
 module _ {l : Lines} {c : Catalogue} (k : ReadWell l c) (few : l .state .versions ≤ 65535) where

@@ -17,7 +17,7 @@ use Rattle.rules.specs.Frames.{frameOf, byteAt, versionAt}
 use Rattle.rules.specs.Catalogue.{Version, Need, Catalogue, catalogue, noCatalogue, noVersion, noNeed, versionAtPlace, needAt, isOf, placesOf, Limits}
 use Rattle.rules.specs.Catalogue.{CarriedLimits, WellFormed, Carried, catalogueReader, catalogueOf, Reading, reading, withFrame, isHead}
 use Rattle.rules.specs.Catalogue.{isVersion, isCaret, isNeed, lastVersion, versionIn, needIn, hasVersion, isOlder, orderFits, contentFits}
-use Rattle.rules.specs.Catalogue.{roomFits, rootFits, textFault}
+use Rattle.rules.specs.Catalogue.{limits, roomFits, rootFits, textFault}
 use Rattle.rules.specs.Promises.{ReadsWellFormed}
 use Rattle.rules.proofs.Lists.{and-fst, and-snd, and-both, or-cases, or-fst, or-snd, same-or-not, longer, length-last, one-more, one-more-pair}
 use Rattle.rules.proofs.Lists.{keep-more}
@@ -314,3 +314,7 @@ pub reads-few : (l : Limits) (t : List ℕ) → textFault l t ≡ fine → (m : 
 reads-few l t e m =
     let read = fine-text (catalogueReader l) (l .bytes) (reading 0 noCatalogue) t e in
     rw (read .1, catalogueOf) (run-sound l (read .3) .0 .few m)
+
+-- the limits of this build are such as frames can carry
+pub limits-carried : CarriedLimits limits
+limits-carried = record { needs = omega arith; sheets = omega arith }

@@ -11,10 +11,10 @@ use lib.ListN.{length}
 use borrow.Author.Tests.{eqb-true}
 use Rattle.rules.specs.Lines.{fine, unless}
 use Rattle.rules.specs.Frames.{kindOf, sheets, digitsFor}
-use Rattle.rules.specs.Catalogue.{Catalogue, WellFormed, Carried, CarriedLimits, limits, textFault, catalogueOf}
+use Rattle.rules.specs.Catalogue.{Catalogue, WellFormed, Carried, limits, textFault, catalogueOf}
 use Rattle.rules.specs.Sheet.{SheetReading, sheetReading, sheetReader, lastLine, sheetFault}
 use Rattle.rules.proofs.Readers.{same-told}
-use Rattle.rules.proofs.Reading.{reads-well-formed, reads-few}
+use Rattle.rules.proofs.Reading.{reads-well-formed, reads-few, limits-carried}
 use Rattle.store.specs.Tables.{Holds}
 use Rattle.store.specs.declared.tables.Tables.{Tables}
 use Rattle.store.proofs.Kept.{count-holds}
@@ -94,8 +94,5 @@ read-given text t size e h room =
       narrow = record { modules = read .1 .modules; versions = λ m. let few = reads-few limits text e m in omega (arith, count-holds h m) };
     }
   where
-    carried : CarriedLimits limits
-    carried = record { needs = omega arith; sheets = omega arith }
-
     read : WellFormed (catalogueOf limits text) × Carried (catalogueOf limits text)
-    read = reads-well-formed limits text carried e
+    read = reads-well-formed limits text limits-carried e
