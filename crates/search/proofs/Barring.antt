@@ -7,7 +7,7 @@ use mathlib.Core.Option.{Option, some}
 use Prim.Native.Nat.{ℕ, zero, suc, _-_, _≤_, _<_}
 use native.Mathlib.Omega.{arith}
 use lib.Dec.{eqb}
-use lib.ListN.{length, getD, take}
+use lib.ListN.{length, getD}
 use lib.Seq.{getD-take, length-take-le}
 use borrow.Author.Tests.{eq-eqb, ne-eqb}
 use Rattle.rules.specs.Lists.{firstOf, upFrom}
@@ -19,6 +19,7 @@ use Rattle.rules.proofs.Selections.{chosen-new, chosen-old, of-parts, needsAt-m
 use Rattle.store.specs.Tables.{Holds}
 use Rattle.store.specs.declared.tables.Tables.{Tables}
 use Rattle.search.specs.Scan.{noNumber, numberOf, leavesOutIn, barsIn, firstIn, scanState, scanIn, overIn}
+use Rattle.search.proofs.Chosen.{chosenOf, Chosen}
 
 -- FIRST HITS
 -- tests that agree on a list's members have the same first hit
@@ -72,8 +73,17 @@ module _ (t : Tables) (c : Catalogue) (holds : Holds t c) where
           not (isWithin a b v) ≡ leavesOut c k (suc i)
       go p q r = rw (p, q, r)
 
+  -- whether it leaves out what is chosen of the module that it names
+  pub chosen-left-out : WellFormed c → (chosen : List ℕ) (k : ℕ) → k < length (c .needs) →
+      leavesOutIn (t .values) (t .lows) (t .highs) k (getD chosen (getD (t .targets) k 0) 0) ≡
+      leavesOut c k (chosenAt (chosenOf c chosen) (needAt c k .target))
+  chosen-left-out well chosen k l =
+      left-out k (getD chosen (getD (t .targets) k 0) 0) ∙
+      ap (leavesOut c k)
+      (ap (λ (x : ℕ). getD chosen x 0) (holds .targets k) ∙ sym (getD-take (c .modules) chosen (needAt c k .target) 0 (well .targets k l)))
+
   -- the first hit among the needs that a state brings
-  state-number : (f : ℕ → Bool) (x : ℕ) → scanState (t .starts) (t .marks) f x ≡ numberOf (firstOf f (needsAt c x))
+  pub state-number : (f : ℕ → Bool) (x : ℕ) → scanState (t .starts) (t .marks) f x ≡ numberOf (firstOf f (needsAt c x))
   unfolding firstOf
   state-number f zero = refl
   state-number f (suc j) = first-number f _ _ ∙ ap (λ (l : List ℕ). numberOf (firstOf f l)) (sym (holds .needs j))
@@ -82,19 +92,17 @@ module _ (t : Tables) (c : Catalogue) (holds : Holds t c) where
 module _
     (t : Tables) (c : Catalogue) (chosen : List ℕ) (m i : ℕ)
     (holds : Holds t c) (well : WellFormed c) (few : length (c .needs) ≤ noNumber)
-    (long : c .modules ≤ length chosen)
-    (placed : (k j : ℕ) → chosenAt (take (c .modules) chosen) k ≡ suc j → isOf c k j ≡ true)
-    (fits : m < c .modules) (is : isOf c m i ≡ true)
+    (placed : Chosen c chosen) (fits : m < c .modules) (is : isOf c m i ≡ true)
   where
     -- what is chosen, and the state of each module in the trial
     abbrev s : Selection
-    s = take (c .modules) chosen
+    s = chosenOf c chosen
 
     abbrev states : ℕ → ℕ
     states k = chosenAt (withChoice s m i) k
 
     tried : states m ≡ suc i
-    tried = let l = length-take-le (c .modules) chosen long in chosen-new s m i (omega arith)
+    tried = let l = length-take-le (c .modules) chosen (placed .long) in chosen-new s m i (omega arith)
 
     -- the code finds that state
     state-of : (k : ℕ) → k < c .modules → cond (eqb k m) (suc i) (getD chosen k 0) ≡ states k
@@ -115,7 +123,7 @@ module _
 
         other-version : k ≢ m → j ≢ i
         other-version n z =
-            let owner = of-parts c k j (placed k j (sym (chosen-old s m i k n) ∙ e)) .1 in
+            let owner = of-parts c k j (placed .placed k j (sym (chosen-old s m i k n) ∙ e)) .1 in
             n (sym owner ∙ ap (λ (x : ℕ). versionAtPlace c x .owner) z ∙ of-parts c m i is .1)
 
     -- the tests agree on the needs of a module's version
@@ -123,12 +131,8 @@ module _
         barsIn (t .values) (t .targets) (t .lows) (t .highs) chosen (eqb k m) m (suc i) n ≡ bars c s m i n
     tests-agree k n h =
         let need = needsAt-mem c (states k) h in
-        let met = holds .targets n in
-        let target = needAt c n .target in
-        go (own-need k (needAt c n .version) (need .0))
-        (left-out t c holds n (getD chosen (getD (t .targets) n 0) 0) ∙
-        ap (leavesOut c n) (ap (λ (x : ℕ). getD chosen x 0) met ∙ sym (getD-take (c .modules) chosen target 0 (well .targets n (need .1)))))
-        (ap₂ (λ (x : ℕ) (b : Bool). eqb x m && b) met (left-out t c holds n (suc i)))
+        go (own-need k (needAt c n .version) (need .0)) (chosen-left-out t c holds well chosen n (need .1))
+        (ap₂ (λ (x : ℕ) (b : Bool). eqb x m && b) (holds .targets n) (left-out t c holds n (suc i)))
       where
         go : {a b x y v w : Bool} → a ≡ b → x ≡ y → v ≡ w → cond a x v ≡ cond b y w
         go p q r = rw (p, q, r)
@@ -145,7 +149,7 @@ module _
     -- the scan of all modules
     pub barring-law :
         overIn (scanIn (t .values) (t .starts) (t .marks) (t .targets) (t .lows) (t .highs) chosen m (suc i)) 0 (c .modules) ≡
-        numberOf (barring c (take (c .modules) chosen) m i)
+        numberOf (barring c s m i)
     unfolding barring asked
     barring-law =
         over-number (bars c s m i) (λ (k : ℕ). needsAt c (states k)) _ 0 (c .modules) (λ k q. scan-number k (below-mem q))

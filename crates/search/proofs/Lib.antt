@@ -4,11 +4,12 @@ pub mod Notes
 pub mod NotedLines
 pub mod Walks
 pub mod Scans
-pub mod Barring
 pub mod Folds
+pub mod Chosen
 pub mod Asked
-pub mod Found
-pub mod SheetLines
+pub mod Barring
+pub mod Fitted
+pub mod Follows
 pub mod Ends
-pub mod Whole
+pub mod Start
 pub mod Searched

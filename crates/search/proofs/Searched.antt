@@ -3,31 +3,31 @@
 use mathlib.Core.Path.{_≡_, refl, sym, _∙_, ap, ap₂, subst}
 use mathlib.Core.Bool.{true, false, _&&_}
 use mathlib.Core.List.{List, [], _∷_, _++_, flatMap}
-use mathlib.Core.Option.{Option, none, some, Option·none-ne-some, Option·some-injective}
+use mathlib.Core.Option.{Option, none, some}
 use Prim.Native.Nat.{ℕ, suc, _+_, _*_, _/_, _%_, _≤_, _<_}
 use native.Mathlib.Omega.{arith}
 use lib.Dec.{ltb}
-use lib.ListN.{length, getD, take}
+use lib.ListN.{length, getD}
 use lib.Seq.{sets}
 use borrow.Author.Tests.{ltb-true}
 use Rattle.rules.specs.Catalogue.{Catalogue, Carried, WellFormed}
 use Rattle.rules.specs.Lists.{isIn}
 use Rattle.rules.specs.Frames.{frameText}
 use Rattle.rules.specs.Selection.{Selection}
-use Rattle.rules.specs.Search.{newestFirst, best}
-use Rattle.rules.specs.Sheet.{Entry, cites, resolves, entryFits, entriesFit, entryText, isRefuting, refutes, lastLine, mostLines, sheetOf}
+use Rattle.rules.specs.Search.{newestFirst, searchFrom, best}
+use Rattle.rules.specs.Sheet.{Entry, cites, resolves, entryFits, entriesFit, entryText, isRefuting, refutes, lastLine, mostLines, sheetOf, searchLines}
 use Rattle.rules.proofs.Lists.{and-fst, and-snd}
 use Rattle.rules.proofs.Theorems.{sheets-tell}
 use Rattle.store.specs.Tables.{Holds}
 use Rattle.store.specs.declared.tables.Tables.{Tables}
 use Rattle.search.specs.Scan.{noNumber}
-use Rattle.search.specs.Finding.{startIn, findFrom}
 use Rattle.search.specs.Noting.{Sheet, sheet, noted, entryBytes}
-use Rattle.search.specs.Walking.{Moves, movesIn, Walked, started, searchIn}
+use Rattle.search.specs.Walking.{Moves, Walked, started, searchIn}
 use Rattle.search.proofs.NotedLines.{notesIn, linesText, too-many, all-noted}
+use Rattle.search.proofs.Chosen.{chosenOf}
+use Rattle.search.proofs.Follows.{Follows, movesOf, tables-follow}
 use Rattle.search.proofs.Ends.{Ends, walk-law}
-use Rattle.search.proofs.Found.{foundOf}
-use Rattle.search.proofs.Whole.{finds-best, leaves-sheet}
+use Rattle.search.proofs.Start.{best-found, startIn, start-root, start-chosen}
 
 -- A FITTING LINE is noted as the rules write it: its numbers are such as its bytes can carry
 module _ (c : Catalogue) (k : Carried c) where
@@ -59,7 +59,7 @@ module _ (c : Catalogue) (k : Carried c) where
 module _ (t : Tables) (c : Catalogue) (holds : Holds t c) (w : WellFormed c) (few : c .modules ≤ 32) (numbers : length (c .needs) ≤ noNumber)
     (a : ℕ) (area : List ℕ) where
   abbrev moves : Moves
-  moves = movesIn (t .values) (t .starts) (t .marks) (t .firsts) (t .counts) (t .targets) (t .lows) (t .highs) (c .modules)
+  moves = movesOf t (c .modules)
 
   abbrev pub ended : Walked
   ended = searchIn moves (c .modules) a (getD (t .firsts) 0 0) area
@@ -70,27 +70,26 @@ module _ (t : Tables) (c : Catalogue) (holds : Holds t c) (w : WellFormed c) (fe
   abbrev lines : List Entry
   lines = sheetOf c (newestFirst c)
 
-  whole : Ends t (c .modules) a fresh refl (startIn t) (notesIn a fresh lines) (findFrom (c .modules) t (c .modules) (startIn t)) ended
+  follows : Follows moves c
+  follows = tables-follow t c holds w few numbers
+
+  -- how it ends, by what the rules' search finds
+  abbrev EndsWith : Option Selection → Type 0
+  EndsWith x = Ends c few moves follows a fresh refl (startIn t) (notesIn a fresh lines) x ended
+
+  whole : EndsWith (best c)
   unfolding notesIn
   whole =
-      subst (λ (es : List Entry). Ends t (c .modules) a fresh refl (startIn t) (notesIn a fresh es) (findFrom (c .modules) t (c .modules) (startIn t)) ended)
-      (leaves-sheet t c holds w few numbers) (walk-law t (c .modules) a fresh refl (c .modules) (started (getD (t .firsts) 0 0)) [])
+      subst EndsWith (sym (best-found c))
+      (subst (λ (s : Selection). Ends c few moves follows a fresh refl (startIn t) (notesIn a fresh (searchLines (c .modules) c (newestFirst c) s 0))
+      (searchFrom (c .modules) c (newestFirst c) s .found) ended) (start-root t c holds w few)
+      (walk-law c few moves follows a fresh refl (c .modules) (started (getD (t .firsts) 0 0)) (start-chosen t c holds w few) []))
 
-  pub search-finds : (s : Selection) → best c ≡ some s → (ended .found ≡ true) × (take (c .modules) (ended .choices .chosen) ≡ s)
-  search-finds s e = go (findFrom (c .modules) t (c .modules) (startIn t)) (finds-best t c holds w few numbers ∙ e) whole
-    where
-      go : (x : Option (List ℕ)) → foundOf (c .modules) x ≡ some s → Ends t (c .modules) a fresh refl (startIn t) (notesIn a fresh lines) x ended →
-          (ended .found ≡ true) × (take (c .modules) (ended .choices .chosen) ≡ s)
-      go none p h = absurd (Option·none-ne-some _ p)
-      go (some ch) p h = (h .0, ap (take (c .modules)) (h .1) ∙ Option·some-injective _ _ p)
+  pub search-finds : (s : Selection) → best c ≡ some s → (ended .found ≡ true) × (chosenOf c (ended .choices .chosen) ≡ s)
+  search-finds s e = subst EndsWith e whole
 
   pub search-fails : best c ≡ none → (ended .found ≡ false) × (ended .sheet ≡ notesIn a fresh lines)
-  search-fails e = go (findFrom (c .modules) t (c .modules) (startIn t)) (finds-best t c holds w few numbers ∙ e) whole
-    where
-      go : (x : Option (List ℕ)) → foundOf (c .modules) x ≡ none → Ends t (c .modules) a fresh refl (startIn t) (notesIn a fresh lines) x ended →
-          (ended .found ≡ false) × (ended .sheet ≡ notesIn a fresh lines)
-      go none p h = (h .0, h .1 .1)
-      go (some ch) p h = absurd (Option·none-ne-some _ (sym p))
+  search-fails e = let h = subst EndsWith e whole in (h .0, h .1 .1)
 
   -- more lines than the allowance are told
   pub search-over : best c ≡ none → a < length lines → ended .sheet .noted .over ≡ true

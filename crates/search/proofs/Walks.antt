@@ -1,7 +1,7 @@
 -- The ways out of a trial and of a place, one lemma each, and the turns of a place's loop over its versions (`Going`). Assumes nothing.
 use mathlib.Core.Path.{_≡_, refl, sym, _∙_, ap}
 use mathlib.Core.Logic.{_≢_}
-use mathlib.Core.Bool.{true, false, cond}
+use mathlib.Core.Bool.{Bool, true, false, cond}
 use mathlib.Core.List.{List}
 use Prim.Native.Nat.{ℕ, zero, suc, _+_, _-_, _≤_, _<_}
 use native.Mathlib.Omega.{arith}
@@ -15,7 +15,6 @@ use Rattle.search.specs.declared.noting.Noted.{Noted}
 use Rattle.search.specs.declared.walk.Found.{Found}
 use Rattle.search.specs.declared.wanted.Wanted.{Wanted}
 use Rattle.search.specs.Choosing.{choices, falling}
-use Rattle.search.specs.Scan.{noNumber}
 use Rattle.search.specs.Wanted.{noModule, noneWanted}
 use Rattle.search.specs.Noting.{Sheet, sheet, noteIn, numberIn, entryBytes}
 use Rattle.search.specs.Walking.{Moves, Walked, walked, told, tryWalk, eachWalk, walkIn, started}
@@ -39,24 +38,22 @@ start-is n e r = r ∙ rw (n, e)
 
 module _ (v : Moves) (a : ℕ) where
   -- A TRIAL: barred, found, failed
-  module _ (go : Choices → Sheet → Walked) (w : Wanted) (i : ℕ) (r : Choices) (s : Sheet) {k : ℕ} (is-bar : k ≡ v .bar (r .chosen) (w .owner .0) i)
-    where
-      pub try-barred : k ≢ noNumber → {next : Sheet} → next ≡ noteIn a (entryBytes (cites k)) s → walked false r next ≡ tryWalk v a go w i r s
+  module _ (go : Choices → Sheet → Walked) (w : Wanted) (i : ℕ) (r : Choices) (s : Sheet) {fit : Bool} (is-fit : fit ≡ v .fits (r .chosen) w i) where
+    pub try-barred : fit ≡ false → {next : Sheet} → next ≡ noteIn a (entryBytes (cites (v .bar (r .chosen) (w .owner .0) i))) s →
+        walked false r next ≡ tryWalk v a go w i r s
+    unfolding tryWalk
+    try-barred n e = rw e (sym (cond-false _ _ (sym is-fit ∙ n)))
+
+    module _ (fits : fit ≡ true) {chosen : Choices} (is-chosen : chosen ≡ choices (set (r .chosen) (w .owner .0) (suc i)) (r .next))
+        {t : Walked} (is-go : t ≡ go chosen s) where
+      pub try-found : t .found ≡ true → t ≡ tryWalk v a go w i r s
       unfolding tryWalk
-      try-barred n e = rw (e, is-bar) (sym (cond-false _ _ (ne-eqb _ noNumber (λ q. n (is-bar ∙ q)))))
+      try-found z = rw (← is-chosen, ← is-go) (sym (cond-true _ _ (sym is-fit ∙ fits) ∙ cond-true _ _ z))
 
-      module _ (free : k ≡ noNumber) {chosen : Choices} (is-chosen : chosen ≡ choices (set (r .chosen) (w .owner .0) (suc i)) (r .next))
-          {t : Walked} (is-go : t ≡ go chosen s) where
-        pub try-found : t .found ≡ true → t ≡ tryWalk v a go w i r s
-        unfolding tryWalk
-        try-found z =
-            rw (← is-chosen, ← is-go) (sym (cond-true _ _ (eq-eqb _ noNumber (sym is-bar ∙ free)) ∙ cond-true _ _ z))
-
-        pub try-failed : t .found ≡ false → {back : Choices} → back ≡ choices (set (t .choices .chosen) (w .owner .0) 0) w →
-            walked false back (t .sheet) ≡ tryWalk v a go w i r s
-        unfolding tryWalk
-        try-failed z b =
-            rw (b, ← is-chosen, ← is-go) (sym (cond-true _ _ (eq-eqb _ noNumber (sym is-bar ∙ free)) ∙ cond-false _ _ z))
+      pub try-failed : t .found ≡ false → {back : Choices} → back ≡ choices (set (t .choices .chosen) (w .owner .0) 0) w →
+          walked false back (t .sheet) ≡ tryWalk v a go w i r s
+      unfolding tryWalk
+      try-failed z b = rw (b, ← is-chosen, ← is-go) (sym (cond-true _ _ (sym is-fit ∙ fits) ∙ cond-false _ _ z))
 
   -- A PLACE: no fuel, nothing wanted, or the versions of what is wanted
   module _ (r : Choices) (s : Sheet) where

@@ -2,6 +2,6 @@
 pub mod Choosing
 pub mod Scan
 pub mod Wanted
-pub mod Finding
+pub mod Fitting
 pub mod Noting
 pub mod Walking

@@ -9,22 +9,26 @@ use Rattle.search.specs.declared.choices.Choices.{Choices}
 use Rattle.search.specs.declared.walk.Found.{Found}
 use Rattle.search.specs.declared.wanted.Wanted.{Wanted}
 use Rattle.search.specs.Choosing.{choices, falling}
-use Rattle.search.specs.Scan.{noNumber, scanIn, overIn}
+use Rattle.search.specs.Fitting.{fitsIn}
+use Rattle.search.specs.Scan.{scanIn, overIn}
 use Rattle.search.specs.Wanted.{noModule, noneWanted, wantedIn}
 use Rattle.search.specs.Noting.{Sheet, sheet, noted, noteIn, numberIn, entryBytes}
 
--- what a search asks of the tables: the need that bars a trial, the module that is wanted next, and a module's versions in the order of their trials
+-- what a search asks of the tables: the module that is wanted next, its versions in the order of their trials, whether a version fits, and the need
+-- that bars it where it does not
 pub record Moves : Type 0 where
-  pub bar : (chosen : List ℕ) → (owner place : ℕ) → ℕ
   pub next : (chosen : List ℕ) → Wanted
   pub tries : (owner : ℕ) → List ℕ
+  pub fits : (chosen : List ℕ) → Wanted → (place : ℕ) → Bool
+  pub bar : (chosen : List ℕ) → (owner place : ℕ) → ℕ
 
 abbrev pub movesIn : (values starts marks firsts counts targets lows highs : List ℕ) → (modules : ℕ) → Moves
 movesIn vs ss ms fs cs ts ls hs n =
     record {
-      bar = λ ch m i. overIn (scanIn vs ss ms ts ls hs ch m (suc i)) 0 n;
-      next = λ ch. wantedIn ss ms ts ch n;
+      next = λ ch. wantedIn ss ms ts ls hs ch n;
       tries = λ m. falling (getD fs m 0) (getD cs m 0);
+      fits = λ ch w i. fitsIn vs ss ms ts ls hs ch w i;
+      bar = λ ch m i. overIn (scanIn vs ss ms ts ls hs ch m (suc i)) 0 n;
     }
 
 -- every place of a module's versions, where it has any, and the one past them, is a number of 16 bits
@@ -48,10 +52,10 @@ told w = record { found = w .found; choices = w .choices; noted = w .sheet .note
 abbrev pub takenBack : Wanted → Walked → Walked
 takenBack w r = cond (r .found) r (walked false (choices (set (r .choices .chosen) (w .owner .0) 0) w) (r .sheet))
 
--- TRIAL of the wanted module at a place: barred, or the search goes on with the choice made
+-- TRIAL of the wanted module at a place: the search goes on with the choice made, or the need that bars it is cited
 unfoldable pub tryWalk : Moves → (allowance : ℕ) → (go : Choices → Sheet → Walked) → Wanted → (place : ℕ) → Choices → Sheet → Walked
 tryWalk v a go w i r s =
-    cond (eqb (v .bar (r .chosen) (w .owner .0) i) noNumber)
+    cond (v .fits (r .chosen) w i)
     (takenBack w (go (choices (set (r .chosen) (w .owner .0) (suc i)) (r .next)) s))
     (walked false r (noteIn a (entryBytes (cites (v .bar (r .chosen) (w .owner .0) i))) s))
 

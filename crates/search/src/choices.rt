@@ -9,6 +9,8 @@ use crate::wanted::Wanted;
 use frames::numbers::ModuleNo;
 use frames::numbers::Place;
 use store::limits::MODULES;
+use store::limits::NEEDS;
+use store::limits::VERSIONS;
 
 pub struct Choices {
     pub chosen: [u16; MODULES as usize],
@@ -51,18 +53,20 @@ impl Choices {
         self
     }
 
-    // The module to choose next is found, and the need that asks for it.
+    // The module to choose next is found, with the need that asks for it and the range that is left to it.
     pub fn next_module<'a>(
         mut self,
-        starts: &'a [u16],
-        marks: &'a [u16],
-        targets: &'a [u16],
+        starts: &'a [u16; VERSIONS as usize],
+        marks: &'a [u16; VERSIONS as usize],
+        targets: &'a [u16; NEEDS as usize],
+        lows: &'a [u32; NEEDS as usize],
+        highs: &'a [u32; NEEDS as usize],
         modules: u16,
     ) -> Choices
         ensures { λ r. ⌜ r ≡ choices (self .chosen)
-            (wantedIn (now (starts .entry)) (now (marks .entry)) (now (targets .entry)) (self .chosen) modules) ⌝ }
+            (wantedIn (now (starts .entry)) (now (marks .entry)) (now (targets .entry)) (now (lows .entry)) (now (highs .entry)) (self .chosen) modules) ⌝ }
     {
-        let w = wanted::next_of(starts, marks, targets, &self.chosen, modules);
+        let w = wanted::next_of(starts, marks, targets, lows, highs, &self.chosen, modules);
         self.next = w;
         self
     }

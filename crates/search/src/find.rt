@@ -9,6 +9,9 @@ use crate::walk;
 use crate::walk::Found;
 use frames::numbers::ModuleNo;
 use frames::numbers::Place;
+use store::limits::MODULES;
+use store::limits::NEEDS;
+use store::limits::VERSIONS;
 use store::lookup;
 
 // The module that every selection has.
@@ -16,14 +19,14 @@ const ROOT: u16 = 0;
 
 // A selection, or the lines of a sheet in the work area, as far as the allowance and the area go.
 pub fn find<'a>(
-    values: &'a [u32],
-    starts: &'a [u16],
-    marks: &'a [u16],
-    firsts: &'a [u16],
-    counts: &'a [u16],
-    targets: &'a [u16],
-    lows: &'a [u32],
-    highs: &'a [u32],
+    values: &'a [u32; VERSIONS as usize],
+    starts: &'a [u16; VERSIONS as usize],
+    marks: &'a [u16; VERSIONS as usize],
+    firsts: &'a [u16; MODULES as usize],
+    counts: &'a [u16; MODULES as usize],
+    targets: &'a [u16; NEEDS as usize],
+    lows: &'a [u32; NEEDS as usize],
+    highs: &'a [u32; NEEDS as usize],
     work: &mut [u8],
     modules: u16,
     allowance: u16,

@@ -6,6 +6,9 @@ use frames::numbers::ModuleNo;
 use frames::numbers::Place;
 use frames::numbers::Version;
 use store::access;
+use store::limits::MODULES;
+use store::limits::NEEDS;
+use store::limits::VERSIONS;
 use store::lookup;
 
 // What stands for no need.
@@ -13,9 +16,9 @@ pub const NONE: u32 = 4294967295;
 
 // Need k leaves out the version at a place.
 pub fn leaves_out<'a>(
-    values: &'a [u32],
-    lows: &'a [u32],
-    highs: &'a [u32],
+    values: &'a [u32; VERSIONS as usize],
+    lows: &'a [u32; NEEDS as usize],
+    highs: &'a [u32; NEEDS as usize],
     k: u32,
     p: Place,
 ) -> bool
@@ -30,11 +33,11 @@ pub fn leaves_out<'a>(
 
 // Need k bars the trial of module m at a place: m's own need leaves out what is chosen, or another's need that names m leaves out the version tried.
 pub fn bars<'a>(
-    values: &'a [u32],
-    targets: &'a [u16],
-    lows: &'a [u32],
-    highs: &'a [u32],
-    chosen: &'a [u16],
+    values: &'a [u32; VERSIONS as usize],
+    targets: &'a [u16; NEEDS as usize],
+    lows: &'a [u32; NEEDS as usize],
+    highs: &'a [u32; NEEDS as usize],
+    chosen: &'a [u16; MODULES as usize],
     own: bool,
     m: ModuleNo,
     p: Place,
@@ -59,11 +62,11 @@ pub fn bars<'a>(
 
 // The first need of a run that bars the trial.
 pub fn first_bar<'a>(
-    values: &'a [u32],
-    targets: &'a [u16],
-    lows: &'a [u32],
-    highs: &'a [u32],
-    chosen: &'a [u16],
+    values: &'a [u32; VERSIONS as usize],
+    targets: &'a [u16; NEEDS as usize],
+    lows: &'a [u32; NEEDS as usize],
+    highs: &'a [u32; NEEDS as usize],
+    chosen: &'a [u16; MODULES as usize],
     own: bool,
     m: ModuleNo,
     p: Place,
@@ -87,13 +90,13 @@ pub fn first_bar<'a>(
 
 // The first need of module k that bars the trial of module m at a place.
 pub fn scan_module<'a>(
-    values: &'a [u32],
-    starts: &'a [u16],
-    marks: &'a [u16],
-    targets: &'a [u16],
-    lows: &'a [u32],
-    highs: &'a [u32],
-    chosen: &'a [u16],
+    values: &'a [u32; VERSIONS as usize],
+    starts: &'a [u16; VERSIONS as usize],
+    marks: &'a [u16; VERSIONS as usize],
+    targets: &'a [u16; NEEDS as usize],
+    lows: &'a [u32; NEEDS as usize],
+    highs: &'a [u32; NEEDS as usize],
+    chosen: &'a [u16; MODULES as usize],
     m: ModuleNo,
     p: Place,
     k: ModuleNo,
@@ -137,13 +140,13 @@ pub fn scan_module<'a>(
 
 // The first need that bars the trial of module m at a place, over all modules in turn.
 pub fn barring<'a>(
-    values: &'a [u32],
-    starts: &'a [u16],
-    marks: &'a [u16],
-    targets: &'a [u16],
-    lows: &'a [u32],
-    highs: &'a [u32],
-    chosen: &'a [u16],
+    values: &'a [u32; VERSIONS as usize],
+    starts: &'a [u16; VERSIONS as usize],
+    marks: &'a [u16; VERSIONS as usize],
+    targets: &'a [u16; NEEDS as usize],
+    lows: &'a [u32; NEEDS as usize],
+    highs: &'a [u32; NEEDS as usize],
+    chosen: &'a [u16; MODULES as usize],
     modules: u16,
     m: ModuleNo,
     p: Place,

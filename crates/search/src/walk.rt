@@ -4,13 +4,15 @@ ghost use Prim.Native.Nat.{_<_};
 ghost use Rattle.search.specs.Noting.{sheet};
 ghost use Rattle.search.specs.Walking.{PlacesFit, movesIn, told, tryWalk, walkIn};
 use crate::choices::Choices;
+use crate::fitting;
 use crate::noting;
 use crate::noting::Noted;
-use crate::scan;
-use crate::scan::NONE;
 use crate::wanted::NO_MODULE;
 use crate::wanted::Wanted;
 use frames::numbers::Place;
+use store::limits::MODULES;
+use store::limits::NEEDS;
+use store::limits::VERSIONS;
 use store::lookup;
 use store::tables;
 
@@ -21,17 +23,17 @@ pub struct Found {
     pub found: bool,
 }
 
-// A trial of the wanted module at a place: it fails at once, with the need that bars it, or the search goes on to the next place. From a failure the
-// record comes back as it was.
+// A trial of the wanted module at a place: it fails at once, and the need that bars it is cited, or the search goes on to the next place. From a failure
+// the record comes back as it was.
 pub fn trial<'a>(
-    values: &'a [u32],
-    starts: &'a [u16],
-    marks: &'a [u16],
-    firsts: &'a [u16],
-    counts: &'a [u16],
-    targets: &'a [u16],
-    lows: &'a [u32],
-    highs: &'a [u32],
+    values: &'a [u32; VERSIONS as usize],
+    starts: &'a [u16; VERSIONS as usize],
+    marks: &'a [u16; VERSIONS as usize],
+    firsts: &'a [u16; MODULES as usize],
+    counts: &'a [u16; MODULES as usize],
+    targets: &'a [u16; NEEDS as usize],
+    lows: &'a [u32; NEEDS as usize],
+    highs: &'a [u32; NEEDS as usize],
     work: &mut [u8],
     modules: u16,
     allowance: u16,
@@ -56,7 +58,7 @@ pub fn trial<'a>(
         .sheet .area ⌝ }
 {
     let m = w.owner;
-    let k = scan::barring(
+    let fits = fitting::fits(
         values,
         starts,
         marks,
@@ -64,12 +66,25 @@ pub fn trial<'a>(
         lows,
         highs,
         &choices.chosen,
-        modules,
-        m,
+        w,
         p,
     );
-    if k != NONE {
-        let cited = noting::cite(work, noted, allowance, k);
+    if !fits {
+        let cited = fitting::cite_bar(
+            values,
+            starts,
+            marks,
+            targets,
+            lows,
+            highs,
+            &choices.chosen,
+            work,
+            modules,
+            allowance,
+            noted,
+            m,
+            p,
+        );
         return Found {
             found: false,
             choices: choices,
@@ -107,14 +122,14 @@ pub fn trial<'a>(
 
 // A place: the module that is wanted next, with its versions tried in turn, newest first; where nothing is wanted, a selection is found.
 pub fn place<'a>(
-    values: &'a [u32],
-    starts: &'a [u16],
-    marks: &'a [u16],
-    firsts: &'a [u16],
-    counts: &'a [u16],
-    targets: &'a [u16],
-    lows: &'a [u32],
-    highs: &'a [u32],
+    values: &'a [u32; VERSIONS as usize],
+    starts: &'a [u16; VERSIONS as usize],
+    marks: &'a [u16; VERSIONS as usize],
+    firsts: &'a [u16; MODULES as usize],
+    counts: &'a [u16; MODULES as usize],
+    targets: &'a [u16; NEEDS as usize],
+    lows: &'a [u32; NEEDS as usize],
+    highs: &'a [u32; NEEDS as usize],
     work: &mut [u8],
     modules: u16,
     allowance: u16,
@@ -137,7 +152,7 @@ pub fn place<'a>(
             noted: noted,
         };
     }
-    let mut record = choices.next_module(starts, marks, targets, modules);
+    let mut record = choices.next_module(starts, marks, targets, lows, highs, modules);
     let w = record.next;
     let m = w.owner;
     if m.0 == NO_MODULE {

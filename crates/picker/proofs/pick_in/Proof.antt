@@ -18,8 +18,7 @@ returns c = refused (c .before .before .read .ensures) (c .before .if1 .taken) (
 
 find-requires : tie.Need-find-requires
 find-requires c κs =
-    let at-if1 = c .before .before .before .before .before .before .before .before .before .before .before .before .before .before .before .before
-    .before .before .before in
+    let at-if1 = c .before .before .before .before .before .before .before .before .before .before .before in
     let at-read = at-if1 .before in
     let at-entry = at-read .before .before .before .before .before in
     let is-known = known (at-entry .pre) (at-read .read .ensures) (at-if1 .if1 .left) in
@@ -28,8 +27,7 @@ find-requires c κs =
 
 write-selection-requires : tie.Need-write-selection-requires
 write-selection-requires c κs =
-    let at-if1 = c .before .before .before .before .before .before .before .before .before .before .before .before .before .before .before .before
-    .before .before .before .before .before .before .before .before .before .before .before .before .before .before .before in
+    let at-if1 = c .before .before .before .before .before .before .before .before .before .before .before .before .before .before .before .before .before .before .before .before .before .before .before in
     let at-read = at-if1 .before in
     let at-entry = at-read .before .before .before .before .before in
     let is-known = known (at-entry .pre) (at-read .read .ensures) (at-if1 .if1 .left) in
@@ -37,14 +35,12 @@ write-selection-requires c κs =
 
 cast-answer : tie.Need-cast-answer
 cast-answer c =
-    let at-write-selection = c .before .before in
-    let at-find = at-write-selection .before .before .before .before .before .before .before .before .before .before .before .before in
-    let at-if1 = at-find .before .before .before .before .before .before .before .before .before .before .before .before .before .before .before
-    .before .before .before .before .before in
+    let at-find = c .before .before .before .before .before .before .before .before .before .before .before .before .before .before in
+    let at-if1 = at-find .before .before .before .before .before .before .before .before .before .before .before .before in
     let at-read = at-if1 .before in
     let at-entry = at-read .before .before .before .before .before in
     let is-known = known (at-entry .pre) (at-read .read .ensures) (at-if1 .if1 .left) in
-    omega (arith, at-write-selection .write-selection .ensures .0, text-fits is-known (at-find .find .result .choices .chosen))
+    omega (arith, c .before .before .write-selection .ensures .0, text-fits is-known (at-find .find .result .choices .chosen))
 
 answer-requires-2 : tie.Need-answer-requires-2
 answer-requires-2 c κs = search needs
@@ -60,8 +56,7 @@ returns-2 c =
     let at-write-selection = c .before .before .before in
     let at-if2 = at-write-selection .before .before .before .before .before .before .before .before .before in
     let at-find = at-if2 .before .before .before in
-    let at-if1 = at-find .before .before .before .before .before .before .before .before .before .before .before .before .before .before .before
-    .before .before .before .before .before in
+    let at-if1 = at-find .before .before .before .before .before .before .before .before .before .before .before .before in
     let at-read = at-if1 .before in
     let at-entry = at-read .before .before .before .before .before in
     let is-known = known (at-entry .pre) (at-read .read .ensures) (at-if1 .if1 .left) in
@@ -78,8 +73,7 @@ returns-3 : tie.Need-returns-3
 returns-3 c =
     let at-if2 = c .before .before .before in
     let at-find = at-if2 .before .before .before in
-    let at-if1 = at-find .before .before .before .before .before .before .before .before .before .before .before .before .before .before .before
-    .before .before .before .before .before in
+    let at-if1 = at-find .before .before .before .before .before .before .before .before .before .before .before .before in
     let at-read = at-if1 .before in
     let at-entry = at-read .before .before .before .before .before in
     let is-known = known (at-entry .pre) (at-read .read .ensures) (at-if1 .if1 .left) in
@@ -87,30 +81,26 @@ returns-3 c =
 
 write-sheet-requires : tie.Need-write-sheet-requires
 write-sheet-requires c κs =
-    let at-if3 = c .before .before in
-    let at-if2 = at-if3 .before .before in
+    let at-if2 = c .before .before .before .before in
     let at-find = at-if2 .before .before .before in
-    let at-if1 = at-find .before .before .before .before .before .before .before .before .before .before .before .before .before .before .before
-    .before .before .before .before .before in
+    let at-if1 = at-find .before .before .before .before .before .before .before .before .before .before .before .before in
     let at-read = at-if1 .before in
     let at-entry = at-read .before .before .before .before .before in
     let is-known = known (at-entry .pre) (at-read .read .ensures) (at-if1 .if1 .left) in
-    let short = lines-fit is-known (at-find .find .ensures .0) (at-if2 .if2 .left) (at-find .find .ensures .1) (at-if3 .if3 .left) in
+    let short = lines-fit is-known (at-find .find .ensures .0) (at-if2 .if2 .left) (at-find .find .ensures .1) (c .before .before .if3 .left) in
     (omega (arith, short, is-known .room .work-room), omega (arith, short, is-known .room .sheet-room))
 
 cast-answer-2 : tie.Need-cast-answer-2
 cast-answer-2 c =
-    let at-write-sheet = c .before .before in
-    let at-if3 = at-write-sheet .before .before .before in
+    let at-if3 = c .before .before .before .before .before in
     let at-if2 = at-if3 .before .before in
     let at-find = at-if2 .before .before .before in
-    let at-if1 = at-find .before .before .before .before .before .before .before .before .before .before .before .before .before .before .before
-    .before .before .before .before .before in
+    let at-if1 = at-find .before .before .before .before .before .before .before .before .before .before .before .before in
     let at-read = at-if1 .before in
     let at-entry = at-read .before .before .before .before .before in
     let is-known = known (at-entry .pre) (at-read .read .ensures) (at-if1 .if1 .left) in
     let short = sheet-fits is-known (at-find .find .ensures .0) (at-if2 .if2 .left) (at-find .find .ensures .1) (at-if3 .if3 .left) in
-    omega (arith, at-write-sheet .write-sheet .ensures .0, short)
+    omega (arith, c .before .before .write-sheet .ensures .0, short)
 
 answer-requires-4 : tie.Need-answer-requires-4
 answer-requires-4 c κs = search needs
@@ -127,8 +117,7 @@ returns-4 c =
     let at-if3 = at-write-sheet .before .before .before in
     let at-if2 = at-if3 .before .before in
     let at-find = at-if2 .before .before .before in
-    let at-if1 = at-find .before .before .before .before .before .before .before .before .before .before .before .before .before .before .before
-    .before .before .before .before .before in
+    let at-if1 = at-find .before .before .before .before .before .before .before .before .before .before .before .before in
     let at-read = at-if1 .before in
     let at-entry = at-read .before .before .before .before .before in
     let is-known = known (at-entry .pre) (at-read .read .ensures) (at-if1 .if1 .left) in

@@ -18,9 +18,9 @@ is-within-requires c κs = search needs
 
 returns : tie.Need-returns
 returns c =
-    let at-word-at = c .before .before in
-    let at-version-at = at-word-at .before in
-    let at-entry = at-version-at .before .before .before .before in
+    let at-word-at = c .before .before .before in
+    let at-version-at = at-word-at .before .before in
+    let at-entry = at-version-at .before .before in
     let given = at-entry .args in
     told-left-out (given .values .now) (given .lows .now) (given .highs .now) (given .k) (given .p .0) (at-version-at .version-at .ensures)
     (at-word-at .word-at .ensures)

@@ -12,9 +12,11 @@ first-bar-requires c κs = search needs
 
 returns : tie.Need-returns
 returns c =
-    let given = c .before .before .before .before .before .before .before .before .before .before .before .before .args in
+    let at-if1 = c .before .before .before .before in
+    let at-entry = at-if1 .before .before .before in
+    let given = at-entry .args in
     told-own-scan (given .values .now) (given .starts .now) (given .marks .now) (given .targets .now) (given .lows .now) (given .highs .now)
-    (given .chosen .now) (given .m .0) (given .p .0) (given .k .0) (c .before .before .if1 .taken) (c .before .needs-of .ensures) (c .first-bar .ensures)
+    (given .chosen .now) (given .m .0) (given .p .0) (given .k .0) (at-if1 .if1 .taken) (c .before .needs-of .ensures) (c .first-bar .ensures)
 
 cast-half-at : tie.Need-cast-half-at
 cast-half-at c = search needs
@@ -24,12 +26,14 @@ half-at-requires c κs = search needs
 
 returns-2 : tie.Need-returns-2
 returns-2 c =
-    let given = c .before .before .before .before .before .before .before .before .before .before .before .before .before .args in
+    let at-if1 = c .before .before .before .before in
+    let at-entry = at-if1 .before .before .before in
+    let given = at-entry .args in
     told-nothing (given .values .now) (given .starts .now) (given .marks .now) (given .targets .now) (given .lows .now) (given .highs .now)
-    (given .chosen .now) (given .m .0) (given .p .0) (given .k .0) (c .before .before .before .if1 .left) (c .before .half-at .ensures) (c .if2 .taken)
+    (given .chosen .now) (given .m .0) (given .p .0) (given .k .0) (at-if1 .if1 .left) (c .before .half-at .ensures) (c .if2 .taken)
 
-sub-t16 : tie.Need-sub-t16
-sub-t16 c = search needs
+sub-t26 : tie.Need-sub-t26
+sub-t26 c = search needs
 
 needs-of-requires-2 : tie.Need-needs-of-requires-2
 needs-of-requires-2 c κs = search needs
@@ -39,10 +43,10 @@ first-bar-requires-2 c κs = search needs
 
 returns-3 : tie.Need-returns-3
 returns-3 c =
-    let at-if2 = c .before .before in
+    let at-if2 = c .before .before .before .before in
     let at-half-at = at-if2 .before in
-    let at-if1 = at-half-at .before .before in
-    let at-entry = at-if1 .before .before .before .before .before .before .before .before .before .before in
+    let at-if1 = at-half-at .before .before .before in
+    let at-entry = at-if1 .before .before .before in
     let given = at-entry .args in
     told-scan (given .values .now) (given .starts .now) (given .marks .now) (given .targets .now) (given .lows .now) (given .highs .now)
     (given .chosen .now) (given .m .0) (given .p .0) (given .k .0) (at-if1 .if1 .left) (at-half-at .half-at .ensures) (at-if2 .if2 .left)
@@ -59,7 +63,7 @@ scan-module-spec =
     cast-half-at
     half-at-requires
     returns-2
-    sub-t16
+    sub-t26
     needs-of-requires-2
     first-bar-requires-2
     returns-3)

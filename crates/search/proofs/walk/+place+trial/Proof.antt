@@ -1,6 +1,7 @@
 -- The proof of the cycle of calls {place, trial}. A place tries with one unsettled module less, and a trial goes on to a place with as many, so the
 -- measures are 2 u for a place and 2 u + 1 for a trial. Each way out is a lemma of proofs/Walks.antt.
 use borrow.Author.Needs.{needs}
+use borrow.Author.Tests.{not-true, not-false}
 use mathlib.Core.Path.{_∙_, ap}
 use Prim.Native.Nat.{ℕ, _+_, _*_, _-_, _<_}
 use native.Mathlib.Omega.{arith}
@@ -22,9 +23,10 @@ use Rattle.search.proofs.walk.+place+trial.Lts-trial as trial-lts
 use Rattle.search.proofs.choices.Choices.choose.Reads as choose-reads
 use Rattle.search.proofs.choices.Choices.next_module.Reads as next-module-reads
 use Rattle.search.proofs.choices.Choices.take_back.Reads as take-back-reads
+use Rattle.search.proofs.fitting.cite_bar.Reads as cite-bar-reads
+use Rattle.search.proofs.fitting.fits.Reads as fits-reads
 use Rattle.search.proofs.noting.cite.Reads as cite-reads
 use Rattle.search.proofs.noting.resolve.Reads as resolve-reads
-use Rattle.search.proofs.scan.barring.Reads as barring-reads
 use Rattle.store.proofs.lookup.versions_of.Reads as versions-of-reads
 use Rattle.store.proofs.tables.one_less.Reads as one-less-reads
 use Rattle.search.proofs.walk.+place+trial.{statement}
@@ -68,10 +70,10 @@ place-calls t = (
 
 abbrev trial-calls : ℕ → trial-lts.Claims
 trial-calls t = (
-  barring-reads.Asked,
-  barring-reads.Learnt,
-  cite-reads.Asked,
-  cite-reads.Learnt,
+  fits-reads.Asked,
+  fits-reads.Learnt,
+  cite-bar-reads.Asked,
+  cite-bar-reads.Learnt,
   choose-reads.Asked,
   choose-reads.Learnt,
   place-below t,
@@ -97,7 +99,7 @@ place-μ-loop values starts marks firsts counts targets lows highs work₀ modul
 
 place-returns : (t : ℕ) → place-lts.Need-returns (place-calls t) (place-at t) place.Post place-Inv-loop place-μ-loop
 place-returns t c =
-    let given = c .before .before .before .before .before .before .before .before .before .before .args in
+    let given = c .before .before .args in
     let v = movesIn (given .values .now) (given .starts .now) (given .marks .now) (given .firsts .now) (given .counts .now) (given .targets .now)
     (given .lows .now) (given .highs .now) (given .modules) in
     both-told (place-out v (given .allowance) (given .choices) (sheet (given .work .now) (given .noted)) (given .unsettled) (c .if1 .taken))
@@ -109,7 +111,7 @@ place-returns-2 : (t : ℕ) → place-lts.Need-returns-2 (place-calls t) (place-
 place-returns-2 t c =
     let at-next-module = c .before .before .before .before in
     let at-if1 = at-next-module .before in
-    let at-entry = at-if1 .before .before .before .before .before .before .before .before .before .before in
+    let at-entry = at-if1 .before .before in
     let given = at-entry .args in
     let v = movesIn (given .values .now) (given .starts .now) (given .marks .now) (given .firsts .now) (given .counts .now) (given .targets .now)
     (given .lows .now) (given .highs .now) (given .modules) in
@@ -133,33 +135,31 @@ place-sub-untried t c = search needs
 place-sub-trial : (t : ℕ) → place-lts.Need-sub-trial (place-calls t) (place-at t) place.Post place-Inv-loop place-μ-loop
 place-sub-trial t c = search needs
 
-place-add-t32 : (t : ℕ) → place-lts.Need-add-t32 (place-calls t) (place-at t) place.Post place-Inv-loop place-μ-loop
-place-add-t32 t c =
-    let at-test = c .before .before in
-    let at-turn = at-test .before in
-    let at-versions-of = at-turn .before .before .before .before .before in
-    let at-next-module = at-versions-of .before .before .before .before .before in
-    let at-entry = at-next-module .before .before .before .before .before .before .before .before .before .before .before in
+place-add-t36 : (t : ℕ) → place-lts.Need-add-t36 (place-calls t) (place-at t) place.Post place-Inv-loop place-μ-loop
+place-add-t36 t c =
+    let at-loop = c .before .before .before in
+    let at-versions-of = at-loop .before .before .before .before .before in
+    let at-next-module = at-versions-of .before .before .before .before .before .before .before in
+    let at-entry = at-next-module .before .before .before in
     let is-first = ap (λ (s : Span). s .first) (at-versions-of .versions-of .ensures) in
     let is-count = ap (λ (s : Span). s .count) (at-versions-of .versions-of .ensures) in
     let fits = at-entry .pre .1 (at-next-module .next-module .result .next .owner .0)
-    (omega (arith, is-count, at-turn .loop .inv .few, at-test .loop-test .taken)) in
-    omega (arith, is-first, is-count, fits, at-turn .loop .inv .few, at-test .loop-test .taken)
+    (omega (arith, is-count, at-loop .loop .inv .few, c .before .before .loop-test .taken)) in
+    omega (arith, is-first, is-count, fits, at-loop .loop .inv .few, c .before .before .loop-test .taken)
 
 place-trial-requires : (t : ℕ) → place-lts.Need-trial-requires (place-calls t) (place-at t) place.Post place-Inv-loop place-μ-loop
 place-trial-requires t c κs =
-    let at-test = c .before .before in
-    let at-turn = at-test .before in
-    let at-versions-of = at-turn .before .before .before .before .before in
-    let at-next-module = at-versions-of .before .before .before .before .before in
+    let at-loop = c .before .before .before in
+    let at-versions-of = at-loop .before .before .before .before .before in
+    let at-next-module = at-versions-of .before .before .before .before .before .before .before in
     let at-if1 = at-next-module .before in
-    let at-entry = at-if1 .before .before .before .before .before .before .before .before .before .before in
+    let at-entry = at-if1 .before .before in
     let is-first = ap (λ (s : Span). s .first) (at-versions-of .versions-of .ensures) in
     let is-count = ap (λ (s : Span). s .count) (at-versions-of .versions-of .ensures) in
     let fits = at-entry .pre .1 (at-next-module .next-module .result .next .owner .0)
-    (omega (arith, is-count, at-turn .loop .inv .few, at-test .loop-test .taken)) in (
+    (omega (arith, is-count, at-loop .loop .inv .few, c .before .before .loop-test .taken)) in (
       omega (arith, at-entry .pre .0, at-if1 .if1 .left),
-      (at-entry .pre .1, omega (arith, is-first, is-count, fits, at-turn .loop .inv .few, at-test .loop-test .taken)),
+      (at-entry .pre .1, omega (arith, is-first, is-count, fits, at-loop .loop .inv .few, c .before .before .loop-test .taken)),
     )
 
 place-same-length : (t : ℕ) → place-lts.Need-same-length (place-calls t) (place-at t) place.Post place-Inv-loop place-μ-loop
@@ -168,14 +168,14 @@ place-same-length t c = search needs
 place-returns-3 : (t : ℕ) → place-lts.Need-returns-3 (place-calls t) (place-at t) place.Post place-Inv-loop place-μ-loop
 place-returns-3 t c =
     let at-trial = c .before .before .before in
-    let at-test = at-trial .before .before .before in
-    let at-turn = at-test .before in
-    let at-cite = at-turn .before .before .before in
+    let at-loop-test = at-trial .before .before .before in
+    let at-loop = at-loop-test .before in
+    let at-cite = at-loop .before .before .before in
     let at-versions-of = at-cite .before .before in
-    let at-if2 = at-versions-of .before in
+    let at-if2 = at-versions-of .before .before .before in
     let at-next-module = at-if2 .before .before .before .before in
     let at-if1 = at-next-module .before in
-    let at-entry = at-if1 .before .before .before .before .before .before .before .before .before .before in
+    let at-entry = at-if1 .before .before in
     let given = at-entry .args in
     let v = movesIn (given .values .now) (given .starts .now) (given .marks .now) (given .firsts .now) (given .counts .now) (given .targets .now)
     (given .lows .now) (given .highs .now) (given .modules) in
@@ -184,7 +184,7 @@ place-returns-3 t c =
     (at-if1 .if1 .left) (at-if2 .if2 .left) (ap (λ (s : Span). falling (s .first) (s .count)) (at-versions-of .versions-of .ensures))
     (noted-is (at-cite .cite .ensures .0) (at-cite .cite .ensures .1)) in
     let t-is = ended-is (at-trial .trial .ensures .0) (at-trial .trial .ensures .1) in
-    both-told (going-found _ _ _ _ _ (at-turn .loop .inv) (at-test .loop-test .taken) t-is (c .if3 .taken) ∙ begun)
+    both-told (going-found _ _ _ _ _ (at-loop .loop .inv) (at-loop-test .loop-test .taken) t-is (c .if3 .taken) ∙ begun)
 
 place-one-less-requires : (t : ℕ) → place-lts.Need-one-less-requires (place-calls t) (place-at t) place.Post place-Inv-loop place-μ-loop
 place-one-less-requires t c κs = search needs
@@ -197,15 +197,14 @@ place-loop-less t c = search needs
 
 place-loop-again : (t : ℕ) → place-lts.Need-loop-again (place-calls t) (place-at t) place.Post place-Inv-loop place-μ-loop
 place-loop-again t c =
-    let at-resolve = c .before .before in
-    let at-one-less = at-resolve .before in
+    let at-one-less = c .before .before .before in
     let at-if3 = at-one-less .before .before .before .before in
     let at-trial = at-if3 .before .before .before in
-    let at-test = at-trial .before .before .before in
-    let at-turn = at-test .before in
+    let at-loop-test = at-trial .before .before .before in
+    let at-loop = at-loop-test .before in
     let t-is = ended-is (at-trial .trial .ensures .0) (at-trial .trial .ensures .1) in
-    going-on _ _ _ _ _ (at-turn .loop .inv) (at-test .loop-test .taken) t-is (at-if3 .if3 .left) (search needs) (at-one-less .one-less .ensures)
-    (noted-is (at-resolve .resolve .ensures .0) (at-resolve .resolve .ensures .1))
+    going-on _ _ _ _ _ (at-loop .loop .inv) (at-loop-test .loop-test .taken) t-is (at-if3 .if3 .left) (search needs) (at-one-less .one-less .ensures)
+    (noted-is (c .before .before .resolve .ensures .0) (c .before .before .resolve .ensures .1))
 
 place-same-length-2 : (t : ℕ) → place-lts.Need-same-length-2 (place-calls t) (place-at t) place.Post place-Inv-loop place-μ-loop
 place-same-length-2 t c = search needs
@@ -214,10 +213,10 @@ place-returns-4 : (t : ℕ) → place-lts.Need-returns-4 (place-calls t) (place-
 place-returns-4 t c =
     let at-cite = c .before .before .before .before in
     let at-versions-of = at-cite .before .before in
-    let at-if2 = at-versions-of .before in
+    let at-if2 = at-versions-of .before .before .before in
     let at-next-module = at-if2 .before .before .before .before in
     let at-if1 = at-next-module .before in
-    let at-entry = at-if1 .before .before .before .before .before .before .before .before .before .before in
+    let at-entry = at-if1 .before .before in
     let given = at-entry .args in
     let v = movesIn (given .values .now) (given .starts .now) (given .marks .now) (given .firsts .now) (given .counts .now) (given .targets .now)
     (given .lows .now) (given .highs .now) (given .modules) in
@@ -228,37 +227,36 @@ place-returns-4 t c =
     both-told (going-done _ _ _ _ _ (c .before .loop .inv) (c .loop-test .left) ∙ begun)
 
 -- TRIAL
-trial-barring-requires : (t : ℕ) → trial-lts.Need-barring-requires (trial-calls t) (trial-at t) trial.Post
-trial-barring-requires t c κs = search needs
+trial-fits-requires : (t : ℕ) → trial-lts.Need-fits-requires (trial-calls t) (trial-at t) trial.Post
+trial-fits-requires t c κs = search needs
 
-trial-cite-requires : (t : ℕ) → trial-lts.Need-cite-requires (trial-calls t) (trial-at t) trial.Post
-trial-cite-requires t c κs = search needs
+trial-cite-bar-requires : (t : ℕ) → trial-lts.Need-cite-bar-requires (trial-calls t) (trial-at t) trial.Post
+trial-cite-bar-requires t c κs = search needs
 
 trial-same-length : (t : ℕ) → trial-lts.Need-same-length (trial-calls t) (trial-at t) trial.Post
 trial-same-length t c = search needs
 
 trial-returns : (t : ℕ) → trial-lts.Need-returns (trial-calls t) (trial-at t) trial.Post
 trial-returns t c =
-    let at-cite = c .before .before in
-    let at-if1 = at-cite .before .before in
-    let at-barring = at-if1 .before in
-    let at-entry = at-barring .before .before .before .before .before .before .before .before .before .before .before .before .before .before in
+    let at-if1 = c .before .before .before .before .before .before in
+    let at-fits2 = at-if1 .before in
+    let at-entry = at-fits2 .before .before .before .before .before in
     let given = at-entry .args in
     let v = movesIn (given .values .now) (given .starts .now) (given .marks .now) (given .firsts .now) (given .counts .now) (given .targets .now)
     (given .lows .now) (given .highs .now) (given .modules) in
     let go = walkIn (given .unsettled) v (given .allowance) in
     both-told
-    (try-barred v (given .allowance) go (given .w) (given .p .0) (given .t13) (sheet (given .work .now) (given .noted)) (at-barring .barring .ensures)
-    (at-if1 .if1 .taken) (noted-is (at-cite .cite .ensures .0) (at-cite .cite .ensures .1)))
+    (try-barred v (given .allowance) go (given .w) (given .p .0) (given .t13) (sheet (given .work .now) (given .noted)) (at-fits2 .fits2 .ensures)
+    (not-true _ (at-if1 .if1 .taken)) (noted-is (c .before .before .cite-bar .ensures .0) (c .before .before .cite-bar .ensures .1)))
 
 trial-choose-requires : (t : ℕ) → trial-lts.Need-choose-requires (trial-calls t) (trial-at t) trial.Post
 trial-choose-requires t c κs =
-    let at-entry = c .before .before .before .before .before .before .before .before .before .before .before .before .before .before .before in
+    let at-entry = c .before .before .before .before .before .before in
     at-entry .pre .1 .1
 
 trial-place-requires : (t : ℕ) → trial-lts.Need-place-requires (trial-calls t) (trial-at t) trial.Post
 trial-place-requires t c κs =
-    let at-entry = c .before .before .before .before .before .before .before .before .before .before .before .before .before .before .before .before .before in
+    let at-entry = c .before .before .before .before .before .before .before .before in
     (omega (arith, at-entry .pre .0), at-entry .pre .1 .0)
 
 trial-same-length-2 : (t : ℕ) → trial-lts.Need-same-length-2 (trial-calls t) (trial-at t) trial.Post
@@ -269,15 +267,15 @@ trial-returns-2 t c =
     let at-place = c .before .before .before in
     let at-choose = at-place .before .before in
     let at-if1 = at-choose .before in
-    let at-barring = at-if1 .before in
-    let at-entry = at-barring .before .before .before .before .before .before .before .before .before .before .before .before .before .before in
+    let at-fits2 = at-if1 .before in
+    let at-entry = at-fits2 .before .before .before .before .before in
     let given = at-entry .args in
     let v = movesIn (given .values .now) (given .starts .now) (given .marks .now) (given .firsts .now) (given .counts .now) (given .targets .now)
     (given .lows .now) (given .highs .now) (given .modules) in
     let go = walkIn (given .unsettled) v (given .allowance) in
     both-told
-    (try-found v (given .allowance) go (given .w) (given .p .0) (given .t13) (sheet (given .work .now) (given .noted)) (at-barring .barring .ensures)
-    (at-if1 .if1 .left) (at-choose .choose .ensures) (ended-is (at-place .place .ensures .0) (at-place .place .ensures .1)) (c .if2 .taken))
+    (try-found v (given .allowance) go (given .w) (given .p .0) (given .t13) (sheet (given .work .now) (given .noted)) (at-fits2 .fits2 .ensures)
+    (not-false _ (at-if1 .if1 .left)) (at-choose .choose .ensures) (ended-is (at-place .place .ensures .0) (at-place .place .ensures .1)) (c .if2 .taken))
 
 trial-take-back-requires : (t : ℕ) → trial-lts.Need-take-back-requires (trial-calls t) (trial-at t) trial.Post
 trial-take-back-requires t c κs = search needs
@@ -291,15 +289,15 @@ trial-returns-3 t c =
     let at-place = at-if2 .before .before .before in
     let at-choose = at-place .before .before in
     let at-if1 = at-choose .before in
-    let at-barring = at-if1 .before in
-    let at-entry = at-barring .before .before .before .before .before .before .before .before .before .before .before .before .before .before in
+    let at-fits2 = at-if1 .before in
+    let at-entry = at-fits2 .before .before .before .before .before in
     let given = at-entry .args in
     let v = movesIn (given .values .now) (given .starts .now) (given .marks .now) (given .firsts .now) (given .counts .now) (given .targets .now)
     (given .lows .now) (given .highs .now) (given .modules) in
     let go = walkIn (given .unsettled) v (given .allowance) in
     both-told
-    (try-failed v (given .allowance) go (given .w) (given .p .0) (given .t13) (sheet (given .work .now) (given .noted)) (at-barring .barring .ensures)
-    (at-if1 .if1 .left) (at-choose .choose .ensures) (ended-is (at-place .place .ensures .0) (at-place .place .ensures .1)) (at-if2 .if2 .left)
+    (try-failed v (given .allowance) go (given .w) (given .p .0) (given .t13) (sheet (given .work .now) (given .noted)) (at-fits2 .fits2 .ensures)
+    (not-false _ (at-if1 .if1 .left)) (at-choose .choose .ensures) (ended-is (at-place .place .ensures .0) (at-place .place .ensures .1)) (at-if2 .if2 .left)
     (c .take-back .ensures))
 
 pub +place+trial-spec : {M : Type 1} → statement M
@@ -307,8 +305,8 @@ pub +place+trial-spec : {M : Type 1} → statement M
     close μ-place μ-trial
     (λ t. place-lts.spec (place-calls t) (place-at t) place.Post place-Inv-loop place-μ-loop
     (place-returns t) (place-next-module-requires t) (place-returns-2 t) (place-versions-of-requires t) (place-cite-requires t) (place-loop-holds t)
-    (place-sub-untried t) (place-sub-trial t) (place-add-t32 t) (place-trial-requires t) (place-same-length t) (place-returns-3 t)
+    (place-sub-untried t) (place-sub-trial t) (place-add-t36 t) (place-trial-requires t) (place-same-length t) (place-returns-3 t)
     (place-one-less-requires t) (place-resolve-requires t) (place-loop-less t) (place-loop-again t) (place-same-length-2 t) (place-returns-4 t))
     (λ t. trial-lts.spec (trial-calls t) (trial-at t) trial.Post
-    (trial-barring-requires t) (trial-cite-requires t) (trial-same-length t) (trial-returns t) (trial-choose-requires t) (trial-place-requires t)
+    (trial-fits-requires t) (trial-cite-bar-requires t) (trial-same-length t) (trial-returns t) (trial-choose-requires t) (trial-place-requires t)
     (trial-same-length-2 t) (trial-returns-2 t) (trial-take-back-requires t) (trial-same-length-3 t) (trial-returns-3 t))

@@ -8,10 +8,10 @@ use Rattle.search.proofs.wanted.next_of.Statement.{statement}
 use Rattle.search.proofs.wanted.next_of.Tie as tie
 
 abbrev Inv-loop : tie.InvT-loop
-Inv-loop starts marks targets chosen modules w₀ k₀ w k = Folded (wantedAt starts marks targets chosen) noneWanted 0 modules w k
+Inv-loop starts marks targets lows highs chosen modules w₀ k₀ w k = Folded (wantedAt starts marks targets lows highs chosen) noneWanted 0 modules w k
 
 abbrev μ-loop : tie.MeasureT-loop
-μ-loop starts marks targets chosen modules w₀ k₀ w k = modules - k
+μ-loop starts marks targets lows highs chosen modules w₀ k₀ w k = modules - k
 
 nothing-requires : tie.Need-nothing-requires Inv-loop μ-loop
 nothing-requires c κs = search needs

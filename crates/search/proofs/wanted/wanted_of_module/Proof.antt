@@ -14,14 +14,14 @@ use Rattle.search.proofs.wanted.wanted_of_module.Statement.{statement}
 use Rattle.search.proofs.wanted.wanted_of_module.Tie as tie
 
 -- with the state as read
-module _ (ss ms ts ch : List ℕ) (b : Wanted) (k x : ℕ) (is-state : x ≡ getD ch k 0) where
-  absent : x ≡ 0 → b ≡ wantedAt ss ms ts ch k b
-  absent z = ap (λ (y : ℕ). wantedState ss ms ts ch y b) (sym z ∙ is-state)
+module _ (ss ms ts ls hs ch : List ℕ) (b : Wanted) (k x : ℕ) (is-state : x ≡ getD ch k 0) where
+  absent : x ≡ 0 → b ≡ wantedAt ss ms ts ls hs ch k b
+  absent z = ap (λ (y : ℕ). wantedState ss ms ts ls hs ch y b) (sym z ∙ is-state)
 
-  chosen : x ≢ 0 → {span : Span} → span ≡ needsIn ss ms (x - 1) → {r : Wanted} → r ≡ foldIn (betterIn ts ch) b (span .first) (span .count) →
-      r ≡ wantedAt ss ms ts ch k b
+  chosen : x ≢ 0 → {span : Span} → span ≡ needsIn ss ms (x - 1) → {r : Wanted} → r ≡ foldIn (betterIn ts ls hs ch) b (span .first) (span .count) →
+      r ≡ wantedAt ss ms ts ls hs ch k b
   chosen n p q =
-      q ∙ ap (λ (s : Span). foldIn (betterIn ts ch) b (s .first) (s .count)) p ∙ ap (λ (y : ℕ). wantedState ss ms ts ch y b) (one-back x n ∙ is-state)
+      q ∙ ap (λ (s : Span). foldIn (betterIn ts ls hs ch) b (s .first) (s .count)) p ∙ ap (λ (y : ℕ). wantedState ss ms ts ls hs ch y b) (one-back x n ∙ is-state)
 
 cast-half-at : tie.Need-cast-half-at
 cast-half-at c = search needs
@@ -31,13 +31,14 @@ half-at-requires c κs = search needs
 
 returns : tie.Need-returns
 returns c =
-    let at-entry = c .before .before .before .before .before .before .before in
+    let at-entry = c .before .before .before .before in
     let given = at-entry .args in
-    absent (given .starts .now) (given .marks .now) (given .targets .now) (given .chosen .now) (given .b) (given .k .0) _ (c .before .half-at .ensures)
+    absent (given .starts .now) (given .marks .now) (given .targets .now) (given .lows .now) (given .highs .now)
+    (given .chosen .now) (given .b) (given .k .0) _ (c .before .half-at .ensures)
     (c .if1 .taken)
 
-sub-t11 : tie.Need-sub-t11
-sub-t11 c = search needs
+sub-t19 : tie.Need-sub-t19
+sub-t19 c = search needs
 
 needs-of-requires : tie.Need-needs-of-requires
 needs-of-requires c κs = search needs
@@ -47,11 +48,12 @@ wanted-of-version-requires c κs = search needs
 
 returns-2 : tie.Need-returns-2
 returns-2 c =
-    let at-if1 = c .before .before in
+    let at-if1 = c .before .before .before .before in
     let at-half-at = at-if1 .before in
-    let at-entry = at-half-at .before .before .before .before .before .before in
+    let at-entry = at-half-at .before .before .before in
     let given = at-entry .args in
-    chosen (given .starts .now) (given .marks .now) (given .targets .now) (given .chosen .now) (given .b) (given .k .0) _ (at-half-at .half-at .ensures)
+    chosen (given .starts .now) (given .marks .now) (given .targets .now) (given .lows .now) (given .highs .now)
+    (given .chosen .now) (given .b) (given .k .0) _ (at-half-at .half-at .ensures)
     (at-if1 .if1 .left) (c .before .needs-of .ensures) (c .wanted-of-version .ensures)
 
 pub wanted-of-module-spec : {M : Type 1} → statement M
@@ -61,7 +63,7 @@ wanted-of-module-spec =
     cast-half-at
     half-at-requires
     returns
-    sub-t11
+    sub-t19
     needs-of-requires
     wanted-of-version-requires
     returns-2)

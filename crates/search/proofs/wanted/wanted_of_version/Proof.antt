@@ -8,10 +8,10 @@ use Rattle.search.proofs.wanted.wanted_of_version.Statement.{statement}
 use Rattle.search.proofs.wanted.wanted_of_version.Tie as tie
 
 abbrev Inv-loop : tie.InvT-loop
-Inv-loop targets chosen first count w₀ k₀ end w k = Folded (betterIn targets chosen) w₀ first count w k
+Inv-loop targets lows highs chosen first count w₀ k₀ end w k = Folded (betterIn targets lows highs chosen) w₀ first count w k
 
 abbrev μ-loop : tie.MeasureT-loop
-μ-loop targets chosen first count w₀ k₀ end w k = first + count - k
+μ-loop targets lows highs chosen first count w₀ k₀ end w k = first + count - k
 
 add-end : tie.Need-add-end Inv-loop μ-loop
 add-end c = search needs

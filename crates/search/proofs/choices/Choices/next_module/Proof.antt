@@ -9,7 +9,9 @@ next-of-requires : tie.Need-next-of-requires
 next-of-requires c κs = search needs
 
 returns : tie.Need-returns
-returns c = ap (choices (c .before .before .before .before .before .before .before .args .t1 .chosen)) (c .next-of .ensures)
+returns c =
+    let at-entry = c .before .before .before in
+    ap (choices (at-entry .args .t1 .chosen)) (c .next-of .ensures)
 
 pub next-module-spec : {M : Type 1} → statement M
 next-module-spec = tie.close (tie.spec next-of-requires returns)

@@ -1,4 +1,4 @@
--- A whole search, from the root's choice on, over tables that hold a catalogue: it finds the best selection, or leaves the sheet. Assumes nothing.
+-- A search over tables that hold a catalogue begins as by the rules: with the root chosen and nothing else (`start-root`, `start-chosen`). Assumes nothing.
 use mathlib.Core.Path.{_≡_, refl, sym, _∙_, ap, ap₂}
 use mathlib.Core.List.{List, [], _∷_}
 use Prim.Native.Nat.{ℕ, zero, suc, _≤_}
@@ -10,15 +10,17 @@ use Rattle.rules.specs.Lists.{upFrom}
 use Rattle.rules.specs.Catalogue.{Catalogue, WellFormed, placesOf}
 use Rattle.rules.specs.Selection.{Selection, chosenAt, rootOnly}
 use Rattle.rules.specs.Search.{newestFirst, searchFrom, search, best}
-use Rattle.rules.specs.Sheet.{sheetOf, searchLines}
 use Rattle.rules.proofs.Partials.{root-fits, root-partial}
 use Rattle.store.specs.Tables.{Holds}
 use Rattle.store.specs.declared.tables.Tables.{Tables}
-use Rattle.search.specs.Scan.{noNumber}
-use Rattle.search.specs.Finding.{startIn, findFrom, linesIn}
-use Rattle.search.proofs.Found.{Chosen, foundOf, find-law}
-use Rattle.search.proofs.SheetLines.{lines-law}
+use Rattle.search.proofs.Chosen.{chosenOf, Chosen}
 
+-- the best selection is what the search from the root finds
+pub best-found : (c : Catalogue) → best c ≡ searchFrom (c .modules) c (newestFirst c) (rootOnly c) .found
+unfolding best search
+best-found c = refl
+
+-- the first of many numbers that are alike
 taken-alike : (n k x : ℕ) → n ≤ k → take n (replicate k x) ≡ replicate n x
 taken-alike zero k x h = refl
 taken-alike (suc n) zero x h = absurd (not-suc-le-zero h)
@@ -30,32 +32,25 @@ unfolding upFrom
 run-first i zero k e = let l = ap length e in absurd (omega (arith, l))
 run-first i (suc n) k e = ap (λ (l : List ℕ). getD l 0 0) e
 
-module _ (t : Tables) (c : Catalogue) (holds : Holds t c) (w : WellFormed c) (few : c .modules ≤ 32) (numbers : length (c .needs) ≤ noNumber) where
+-- the root's first version chosen and nothing else
+abbrev pub startIn : Tables → List ℕ
+startIn t = set (replicate 32 0) 0 (suc (getD (t .firsts) 0 0))
+
+module _ (t : Tables) (c : Catalogue) (holds : Holds t c) (w : WellFormed c) (few : c .modules ≤ 32) where
   root-place : getD (t .firsts) 0 0 ≡ getD (placesOf c 0) 0 0
   root-place =
       let one = w .root in
       run-first _ _ (one .0) (sym (holds .places 0) ∙ one .1) ∙ sym (ap (λ (l : List ℕ). getD l 0 0) (one .1))
 
   -- the search begins as by the rules
-  start-root : take (c .modules) (startIn t) ≡ rootOnly c
+  pub start-root : chosenOf c (startIn t) ≡ rootOnly c
   start-root =
       take-set-lt (c .modules) (replicate 32 0) 0 (suc (getD (t .firsts) 0 0)) (root-fits c w) ∙
       ap₂ (λ (s : Selection) (i : ℕ). set s 0 (suc i)) (taken-alike (c .modules) 32 0 few) root-place
 
-  start-chosen : Chosen c (startIn t)
+  pub start-chosen : Chosen c (startIn t)
   start-chosen =
       record {
         long = rw (length-set (replicate 32 0) 0 (suc (getD (t .firsts) 0 0))) few;
         placed = λ k j e. root-partial c w .states k j (sym (ap (λ (s : Selection). chosenAt s k) start-root) ∙ e);
       }
-
-  pub finds-best : foundOf (c .modules) (findFrom (c .modules) t (c .modules) (startIn t)) ≡ best c
-  unfolding best search
-  finds-best =
-      find-law t c holds w few numbers (c .modules) (startIn t) start-chosen ∙
-      ap (λ (s : Selection). searchFrom (c .modules) c (newestFirst c) s .found) start-root
-
-  pub leaves-sheet : linesIn (c .modules) t (c .modules) (startIn t) 0 ≡ sheetOf c (newestFirst c)
-  leaves-sheet =
-      lines-law t c holds w few numbers (c .modules) (startIn t) start-chosen 0 ∙
-      ap (λ (s : Selection). searchLines (c .modules) c (newestFirst c) s 0) start-root
