@@ -1,7 +1,7 @@
-//! A straightforward walk over plain arrays, as the rules tell it: every trial holds the needs of all chosen versions against the version tried, and its own needs
-//! against what is chosen. It keeps no sets of bits, unlike the second picker's walk.
+//! The plain walk written straightforwardly, over plain arrays, as the rules tell it: every trial holds the needs of all chosen versions against the version tried, and
+//! its own needs against what is chosen. It keeps no sets of bits, unlike the second picker's walk.
 
-use second::{Catalogue, Version};
+use second::{Catalogue, ModuleNo, Place, Selection, Version};
 
 /// A need of a version: a module, and the range as two numbers.
 struct Need {
@@ -63,12 +63,22 @@ impl Plain {
         plain
     }
 
-    /// Whether there is a valid selection, and the trials made.
-    pub fn walk(&self) -> (bool, u64) {
+    /// The wanted selection, if there is a valid one, and the trials made.
+    pub fn walk(&self) -> (Option<Selection>, u64) {
         let mut chosen = [0; 32];
         chosen[0] = self.firsts[0] + 1;
         let mut trials = 0;
-        (self.place(&mut chosen, &mut trials), trials)
+        let found = self.place(&mut chosen, &mut trials);
+        (found.then(|| self.selection(&chosen)), trials)
+    }
+
+    fn selection(&self, chosen: &Chosen) -> Selection {
+        let mut selection = Selection::empty();
+        for (module, (&state, &first)) in chosen.iter().zip(&self.firsts).enumerate() {
+            let place = (state != 0).then(|| Place((state - 1 - first) as u8));
+            selection.set(ModuleNo(module as u8), place);
+        }
+        selection
     }
 
     fn needs_of(&self, place: usize) -> &[Need] {
@@ -139,7 +149,10 @@ mod tests {
             for case in set.cases(20) {
                 let catalogue = second::read(&case.text).expect("a good text");
                 let other = walk(&catalogue, None);
-                let found = matches!(other.outcome, Outcome::Selected(_));
+                let found = match other.outcome {
+                    Outcome::Selected(selection) => Some(selection),
+                    Outcome::Nothing | Outcome::Stopped => None,
+                };
                 assert_eq!(Plain::of(&catalogue).walk(), (found, other.trials));
             }
         }
