@@ -14,7 +14,7 @@ use Rattle.rules.proofs.Partials.{root-fits}
 use Rattle.store.specs.Tables.{Holds}
 use Rattle.store.specs.declared.tables.Tables.{Tables}
 use Rattle.rows.specs.Bits.{hasBit, bitsOf, marks}
-use Rattle.rows.specs.Area.{wordAt}
+use Rattle.rows.specs.Area.{wordAt, absentWord}
 use Rattle.rows.specs.Derived.{isFullIn, refutesIn}
 use Rattle.rows.specs.Stands.{Stands, Narrow}
 use Rattle.rows.specs.Laws.{RefutesLaw}
@@ -32,7 +32,7 @@ module _
     (area : List ℕ) (row : ℕ) (f : Incompatibility) (s : Stands t c area row f)
   where
     -- a module's set is full in the row just if it is by the rules
-    full-same : (m : ℕ) → m < c .modules → isFullIn area row (t .counts) m ≡ isFull c f m
+    full-same : (m : ℕ) → m < c .modules → isFullIn area row (absentWord (c .modules)) (t .counts) m ≡ isFull c f m
     full-same m l =
         ap₂ (λ (a b : Bool). a && b) (s .absent m l)
         (ap (λ (n : ℕ). eqb (wordAt area row m) (bitsOf (marks 0 true true) 0 n)) (in-word (getD (t .counts) m 0) (narrow .versions m)) ∙

@@ -34,9 +34,10 @@ needVersions vs fs ns n m = bitsOf (needBit vs n m) (getD fs m 0) (inWord (getD 
 abbrev pub needAbsent : (modules : ℕ) → Cited → ℕ
 needAbsent ms n = bitsOf (marks (n .needy .0) false true) 0 (inWord ms)
 
+-- a word of the row: the modules' words, and behind them the word of absent
 abbrev pub needWord : (values firsts counts : List ℕ) → (modules : ℕ) → Cited → (word : ℕ) → ℕ
-needWord vs fs ns ms n j = cond (eqb j absentWord) (needAbsent ms n) (needVersions vs fs ns n j)
+needWord vs fs ns ms n j = cond (eqb j ms) (needAbsent ms n) (needVersions vs fs ns n j)
 
 -- the area after the row of need line k is written
 abbrev pub needRow : (area : List ℕ) → (row : ℕ) → (values owners firsts counts needies targets lows highs : List ℕ) → (modules number : ℕ) → List ℕ
-needRow l r vs os fs ns ys ts ls hs ms k = withRow l r (needWord vs fs ns ms (citedIn os ys ts ls hs k))
+needRow l r vs os fs ns ys ts ls hs ms k = withRow l r ms (needWord vs fs ns (absentWord ms) (citedIn os ys ts ls hs k))

@@ -1,10 +1,8 @@
 // The row of a need line: the needing module's set is that one version, the needed module's absent and every version outside the range, all others full.
 ghost use mathlib.Core.Path.{_≡_};
-ghost use Rattle.rows.specs.Area.{withRow};
+ghost use Rattle.rows.specs.Area.{withRow, absentWord};
 ghost use Rattle.rows.specs.Needed.{citedIn, needBit, needVersions, needWord, needRow};
 use crate::area;
-use crate::area::ABSENT;
-use crate::area::WORDS;
 use crate::bits;
 use frames::numbers::ModuleNo;
 use frames::numbers::Place;
@@ -87,7 +85,7 @@ fn need_versions<'a>(
     word
 }
 
-// A word of the row: the word of absent has every module but the needing one.
+// A word of the row, over so many modules: the word of absent stands behind theirs and has every module but the needing one.
 fn need_word<'a>(
     values: &'a [u32],
     firsts: &'a [u16],
@@ -98,7 +96,7 @@ fn need_word<'a>(
 ) -> u32
     ensures { λ r. ⌜ r ≡ needWord (now (values .entry)) (now (firsts .entry)) (now (counts .entry)) modules need word ⌝ }
 {
-    if word == ABSENT {
+    if word == modules {
         let needy = need.needy;
         return bits::marked(modules, needy.0, false, true);
     }
@@ -115,12 +113,13 @@ fn write_need<'a>(
     modules: u16,
     need: Cited,
 )
-    ensures { λ r. ⌜ now (work .exit) ≡ withRow (now (work .entry)) row
-        (needWord (now (values .entry)) (now (firsts .entry)) (now (counts .entry)) modules need) ⌝ }
+    ensures { λ r. ⌜ now (work .exit) ≡ withRow (now (work .entry)) row modules
+        (needWord (now (values .entry)) (now (firsts .entry)) (now (counts .entry)) (absentWord modules) need) ⌝ }
 {
+    let absent = area::absent_word(modules);
     let mut j: u16 = 0;
-    while j < WORDS {
-        let x = need_word(values, firsts, counts, modules, need, j);
+    while j <= absent {
+        let x = need_word(values, firsts, counts, absent, need, j);
         area::put_word(work, row, j, x);
         j += 1;
     }

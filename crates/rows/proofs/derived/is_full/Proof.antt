@@ -29,8 +29,8 @@ returns c =
     let bit = count .before .before in
     let word = bit .before in
     let given = word .before .before .before .args in
-    full-told (given .work .now) (given .row) (given .counts .now) (given .m .0) (word .word-at .ensures) (bit .has-bit .ensures) (count .half-at .ensures)
-    (all .marked .ensures) (c .word-at2 .ensures)
+    full-told (given .work .now) (given .row) (given .absent) (given .counts .now) (given .m .0) (word .word-at .ensures) (bit .has-bit .ensures)
+    (count .half-at .ensures) (all .marked .ensures) (c .word-at2 .ensures)
 
 pub is-full-spec : {M : Type 1} → statement M
 is-full-spec =

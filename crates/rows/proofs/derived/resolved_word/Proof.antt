@@ -13,7 +13,7 @@ marked-requires c κs = search needs
 returns : tie.Need-returns
 returns c =
     let given = c .before .before .args in
-    absent-told (given .m .0) (given .x) (given .y) (c .before .if1 .taken) (c .marked .ensures)
+    absent-told (given .absent) (given .m .0) (given .x) (given .y) (c .before .if1 .taken) (c .marked .ensures)
 
 returns-2 : tie.Need-returns-2
 returns-2 c = sym (cond-false _ _ (ne-eqb _ _ (c .before .before .if1 .left)) ∙ cond-true _ _ (eq-eqb _ _ (c .if2 .taken)))
