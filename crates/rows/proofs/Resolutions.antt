@@ -8,7 +8,7 @@ use lib.Bits.{bitAnd, bitOr}
 use lib.Dec.{eqb}
 use Rattle.rules.specs.Sheet.{resolved}
 use Rattle.rules.proofs.Lists.{cond-same, cond-true, cond-false}
-use Rattle.rows.specs.Bits.{hasBit, bitsOf, marks}
+use Rattle.rows.specs.Bits.{hasBit, oneBit}
 use Rattle.rows.specs.Area.{wordAt, absentWord}
 use Rattle.rows.specs.Derived.{resolvedWord}
 use Rattle.rows.specs.Laws.{ResolvedStands}
@@ -20,7 +20,7 @@ abbrev joined : (here one other : Bool) → Bool
 joined e p q = cond e (p || q) (p && q)
 
 -- of two words of absent
-masked : (e p q : Bool) → ((p && q) || ((p || q) && cond e true false)) ≡ joined e p q
+masked : (e p q : Bool) → ((p && q) || ((p || q) && e)) ≡ joined e p q
 masked true true q = or-true q
 masked true false true = refl
 masked true false false = refl
@@ -30,15 +30,12 @@ masked false false q = and-false q
 
 absent-bit : (w m x y k : ℕ) → k < 32 → hasBit (resolvedWord w m x y w) k ≡ joined (eqb k m) (hasBit x k) (hasBit y k)
 absent-bit w m x y k l =
-    ap (λ (z : ℕ). hasBit z k) (cond-true _ _ (eq-eqb w w refl)) ∙ or-bits (bitAnd x y) (bitAnd (bitOr x y) mask) k ∙
-    ap₂ (λ (a b : Bool). a || b) (and-bits x y k) (and-bits (bitOr x y) mask k ∙ ap₂ (λ (a b : Bool). a && b) (or-bits x y k) here) ∙
+    ap (λ (z : ℕ). hasBit z k) (cond-true _ _ (eq-eqb w w refl)) ∙ or-bits (bitAnd x y) (bitAnd (bitOr x y) (oneBit m)) k ∙
+    ap₂ (λ (a b : Bool). a || b) (and-bits x y k) (and-bits (bitOr x y) (oneBit m) k ∙ ap₂ (λ (a b : Bool). a && b) (or-bits x y k) here) ∙
     masked (eqb k m) (hasBit x k) (hasBit y k)
   where
-    mask : ℕ
-    mask = bitsOf (marks m true false) 0 32
-
-    here : hasBit mask k ≡ cond (eqb k m) true false
-    here = built-bit (marks m true false) 0 32 k (omega arith) l ∙ ap (marks m true false) (omega arith)
+    here : hasBit (oneBit m) k ≡ eqb k m
+    here = built-bit (λ i. eqb i m) 0 32 k (omega arith) l ∙ ap (λ (i : ℕ). eqb i m) (omega arith)
 
 -- of two words of a module
 version-bit : (w m x y k j : ℕ) → k < w → hasBit (resolvedWord w m x y k) j ≡ joined (eqb k m) (hasBit x j) (hasBit y j)

@@ -9,15 +9,16 @@ use lib.Bits.{bitAnd, bitOr}
 use lib.Dec.{eqb}
 use lib.ListN.{getD}
 use Rattle.rules.specs.Lists.{all, below}
-use Rattle.rules.proofs.Lists.{cond-true}
+use Rattle.rules.proofs.Lists.{cond-true, cond-false}
 use Rattle.store.specs.Frame.{moduleNo, place}
 use Rattle.store.specs.Tables.{needIn}
 use Rattle.store.specs.declared.lookup.Need.{Need}
-use Rattle.rows.specs.Bits.{hasBit, bitsOf, marks, allBits}
+use Rattle.rows.specs.Bits.{hasBit, inWord, allBits, oneBit}
 use Rattle.rows.specs.Area.{wordAt, withRow, absentWord}
-use Rattle.rows.specs.Needed.{citedIn, needWord}
+use Rattle.rows.specs.Needed.{citedIn, names, namedBit, needBit, needVersions, needWord}
 use Rattle.rows.specs.Derived.{resolvedWord, isFullIn, refutesIn}
 use Rattle.rows.specs.declared.needed.Cited.{Cited}
+use Rattle.rows.proofs.Building.{bits-agree}
 
 abbrev citedOf : (needy place : ℕ) → Need → Cited
 citedOf n p z = record { needy = moduleNo n; place = place p; target = z .target; low = z .low; high = z .high }
@@ -31,7 +32,17 @@ pub row-told : (l : List ℕ) (r : ℕ) (vs fs ns : List ℕ) (ms : ℕ) {area :
     area ≡ withRow l r ms (needWord vs fs ns (absentWord ms) n) → area ≡ withRow l r ms (needWord vs fs ns (absentWord ms) cited)
 row-told l r vs fs ns ms e f = f ∙ ap (λ (z : Cited). withRow l r ms (needWord vs fs ns (absentWord ms) z)) e
 
-pub absent-told : (w m x y : ℕ) {j b : ℕ} → j ≡ w → b ≡ bitsOf (marks m true false) 0 32 →
+-- A MODULE'S WORD, by whether the need names the module
+module _ (vs : List ℕ) (n : Cited) (m : ℕ) where
+  pub bit-named : not (names n m) ≡ false → (i : ℕ) {b : Bool} → b ≡ namedBit vs n m i → b ≡ needBit vs n m i
+  bit-named h i e = e ∙ sym (cond-true _ _ (not-false (names n m) h))
+
+  pub word-unnamed : not (names n m) ≡ true → (fs ns : List ℕ) {k w : ℕ} → k ≡ getD ns m 0 → w ≡ allBits k → w ≡ needVersions vs fs ns n m
+  word-unnamed h fs ns e f =
+      f ∙ ap allBits e ∙
+      bits-agree (λ i. true) (needBit vs n m) 0 (getD fs m 0) (inWord (getD ns m 0)) (λ j l. sym (cond-false _ _ (not-true (names n m) h)))
+
+pub absent-told : (w m x y : ℕ) {j b : ℕ} → j ≡ w → b ≡ oneBit m →
     bitOr (bitAnd x y) (bitAnd (bitOr x y) b) ≡ resolvedWord w m x y j
 absent-told w m x y {j} e f = rw f (sym (cond-true _ _ (eq-eqb j w e)))
 

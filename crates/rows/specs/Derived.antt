@@ -1,17 +1,17 @@
 -- The row of a resolved line, and the test that a row refutes. Assumes nothing: these are definitions.
-use mathlib.Core.Bool.{Bool, true, false, _&&_, _||_, cond}
+use mathlib.Core.Bool.{Bool, _&&_, _||_, cond}
 use mathlib.Core.List.{List}
 use Prim.Native.Nat.{ℕ}
 use lib.Bits.{bitAnd, bitOr}
 use lib.Dec.{eqb}
 use lib.ListN.{getD}
 use Rattle.rules.specs.Lists.{all, below}
-use Rattle.rows.specs.Bits.{hasBit, bitsOf, marks, allBits}
+use Rattle.rows.specs.Bits.{hasBit, allBits, oneBit}
 use Rattle.rows.specs.Area.{wordAt, withRow, absentWord}
 
 -- two words of absent: the union at one module's bit, the intersection at every other
 abbrev pub resolvedAbsent : (at one other : ℕ) → ℕ
-resolvedAbsent m x y = bitOr (bitAnd x y) (bitAnd (bitOr x y) (bitsOf (marks m true false) 0 32))
+resolvedAbsent m x y = bitOr (bitAnd x y) (bitAnd (bitOr x y) (oneBit m))
 
 -- word j of a line resolved at module m: the union at m, the intersection everywhere else; word `absent` is the word of absent
 abbrev pub resolvedWord : (absent at one other word : ℕ) → ℕ

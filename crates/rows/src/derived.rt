@@ -3,7 +3,6 @@ ghost use mathlib.Core.Path.{_≡_};
 ghost use Rattle.rows.specs.Derived.{resolvedWord, resolvedRow, isFullIn, refutesIn};
 use crate::area;
 use crate::bits;
-use crate::bits::BITS;
 use frames::numbers::ModuleNo;
 use store::access;
 
@@ -12,8 +11,7 @@ fn resolved_word(absent: u16, m: ModuleNo, x: u32, y: u32, j: u16) -> u32
     ensures { λ r. ⌜ r ≡ resolvedWord absent (m .0) x y j ⌝ }
 {
     if j == absent {
-        let bit = bits::marked(BITS, m.0, true, false);
-        return (x & y) | ((x | y) & bit);
+        return (x & y) | ((x | y) & bits::one_bit(m.0));
     }
     if j == m.0 {
         return x | y;
@@ -41,7 +39,7 @@ fn is_full<'a>(work: &'a [u8], row: u16, absent: u16, counts: &'a [u16], m: Modu
 {
     let has_absent = bits::has_bit(area::word_at(work, row, absent), m.0);
     let count = access::half_at(counts, m.0 as usize);
-    let all = bits::marked(count, 0, true, true);
+    let all = bits::all_bits(count);
     has_absent & (area::word_at(work, row, m.0) == all)
 }
 
