@@ -21,7 +21,7 @@ pub in-word-small : (n : ℕ) → inWord n ≤ 32
 in-word-small n = min-le-right n 32
 
 -- n bits make a number below 2 ^ n
-pub bits-below : (f : ℕ → Bool) (i n : ℕ) → bitsOf f i n < 2 ^ n
+bits-below : (f : ℕ → Bool) (i n : ℕ) → bitsOf f i n < 2 ^ n
 unfolding bitsOf
 bits-below f i zero = omega arith
 bits-below f i (suc n) = rw (pow-suc 2 n) (digits-lt (bits-below f (suc i) n) (digit-small (f i)))

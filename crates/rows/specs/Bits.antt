@@ -22,6 +22,10 @@ bitsOf f i (suc n) = bitsOf f (suc i) n * 2 + digit (f i)
 abbrev pub inWord : (count : ℕ) → ℕ
 inWord n = min n 32
 
+-- the word of one bit: it has none where the bit is past a word's last
+abbrev pub oneBit : (at : ℕ) → ℕ
+oneBit k = bitsOf (λ i. eqb i k) 0 32
+
 -- the word of all of the first bits
 abbrev pub allBits : (count : ℕ) → ℕ
 allBits n = bitsOf (λ i. true) 0 (inWord n)
@@ -29,7 +33,3 @@ allBits n = bitsOf (λ i. true) 0 (inWord n)
 -- the word of all of the first bits but one
 abbrev pub allBut : (count at : ℕ) → ℕ
 allBut n k = bitsOf (λ i. not (eqb i k)) 0 (inWord n)
-
--- the word of one bit: it has none where the bit is past a word's last
-abbrev pub oneBit : (at : ℕ) → ℕ
-oneBit k = bitsOf (λ i. eqb i k) 0 32

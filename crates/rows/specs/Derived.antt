@@ -21,7 +21,7 @@ resolvedWord w m x y j = cond (eqb j w) (resolvedAbsent m x y) (cond (eqb j m) (
 abbrev pub resolvedRow : (area : List ℕ) → (row modules one other at : ℕ) → List ℕ
 resolvedRow l r ms a b m = withRow l r ms (λ j. resolvedWord (absentWord ms) m (wordAt l a j) (wordAt l b j) j)
 
--- a module's set has absent and every version
+-- a module's set has absent and every version; word `absent` is the word of absent
 abbrev pub isFullIn : (area : List ℕ) → (row absent : ℕ) → (counts : List ℕ) → (owner : ℕ) → Bool
 isFullIn l r w ns m = hasBit (wordAt l r w) m && eqb (wordAt l r m) (allBits (getD ns m 0))
 

@@ -33,7 +33,7 @@ pub fn resolved_row(work: &mut [u8], row: u16, modules: u16, a: u16, b: u16, m: 
     }
 }
 
-// A module's set has absent and every version.
+// A module's set has absent and every version. The word of absent is word `absent`.
 fn is_full<'a>(work: &'a [u8], row: u16, absent: u16, counts: &'a [u16], m: ModuleNo) -> bool
     ensures { λ r. ⌜ r ≡ isFullIn (now (work .entry)) row absent (now (counts .entry)) (m .0) ⌝ }
 {

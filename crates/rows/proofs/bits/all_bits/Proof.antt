@@ -1,32 +1,21 @@
--- The table's entries are the words of all of so many bits. Assumes nothing.
-use mathlib.Core.Path.{_∙_, ap}
-use mathlib.Core.Bool.{true}
+-- One less than the next bit, and from a word's last bit on the largest word. Assumes nothing.
 use native.Mathlib.Omega.{arith}
 use borrow.Author.Needs.{needs}
-use Rattle.rules.specs.Lists.{upFrom}
-use Rattle.rows.specs.Bits.{bitsOf}
-use Rattle.rows.proofs.Building.{in-word-small}
-use Rattle.rows.proofs.Entries.{entry}
+use Rattle.rows.proofs.Computed.{all-before, all-of-word}
 use Rattle.rows.proofs.bits.all_bits.Statement.{statement}
 use Rattle.rows.proofs.bits.all_bits.Tie as tie
 
-in-word-requires : tie.Need-in-word-requires
-in-word-requires c κs = search needs
+one-bit-requires : tie.Need-one-bit-requires
+one-bit-requires c κs = search needs
 
-cast-result : tie.Need-cast-result
-cast-result c = search needs
-
-mul-result : tie.Need-mul-result
-mul-result c = search needs
-
-array-read-result : tie.Need-array-read-result
-array-read-result c = omega (arith, in-word-small (c .before .args .count))
+sub-result : tie.Need-sub-result
+sub-result c = omega (arith, all-before _ (c .before .if1 .taken))
 
 returns : tie.Need-returns
-unfolding bitsOf upFrom
-returns c =
-    entry (bitsOf (λ i. true) 0) 33 (c .in-word .result) (omega (arith, in-word-small (c .before .args .count))) ∙
-    ap (bitsOf (λ i. true) 0) (c .in-word .ensures)
+returns c = omega (arith, all-before _ (c .before .if1 .taken))
+
+returns-2 : tie.Need-returns-2
+returns-2 c = all-of-word _ (c .if1 .left)
 
 pub all-bits-spec : {M : Type 1} → statement M
-all-bits-spec = tie.close (tie.spec in-word-requires cast-result mul-result array-read-result returns)
+all-bits-spec = tie.close (tie.spec one-bit-requires sub-result returns returns-2)
