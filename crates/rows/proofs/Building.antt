@@ -1,6 +1,6 @@
 -- Words built from the last bit down, bits read by halving, and tests over all modules: what holds at each turn of a loop, and the loop's lemmas.
 -- Assumes nothing.
-use mathlib.Core.Path.{_≡_, _∙_}
+use mathlib.Core.Path.{_≡_, refl, _∙_, ap, ap₂}
 use mathlib.Core.Bool.{Bool, true, false, _&&_}
 use Prim.Native.Nat.{ℕ, zero, suc, _+_, _*_, _-_, _/_, _%_, _^_, _≤_, _<_}
 use native.Mathlib.Omega.{arith}
@@ -25,6 +25,15 @@ bits-below : (f : ℕ → Bool) (i n : ℕ) → bitsOf f i n < 2 ^ n
 unfolding bitsOf
 bits-below f i zero = omega arith
 bits-below f i (suc n) = rw (pow-suc 2 n) (digits-lt (bits-below f (suc i) n) (digit-small (f i)))
+
+-- tests that agree give the same bits
+pub bits-agree : (f g : ℕ → Bool) (i k n : ℕ) → ((j : ℕ) → j < n → f (i + j) ≡ g (k + j)) → bitsOf f i n ≡ bitsOf g k n
+unfolding bitsOf
+bits-agree f g i k zero h = refl
+bits-agree f g i k (suc n) h =
+    ap₂ (λ (q d : ℕ). q * 2 + d)
+    (bits-agree f g (suc i) (suc k) n (λ j l. ap f (omega arith) ∙ h (suc j) (omega arith) ∙ ap g (omega arith)))
+    (ap digit (ap f (omega arith) ∙ h 0 (omega arith) ∙ ap g (omega arith)))
 
 -- BUILT SO FAR: the bits from k on
 pub record Built (f : ℕ → Bool) (first count word k : ℕ) : Type 0 where

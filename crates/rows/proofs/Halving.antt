@@ -139,14 +139,12 @@ odd-same x q = ⊎-elim is (λ n. ne-eqb x (q * 2 + 1) n ∙ sym (other n)) (sam
         ⊎-elim (λ e. rw (eq-eqb (x % 2) 1 e) (ne-eqb (x / 2) q (λ h. n (omega arith)))) (λ e. rw (ne-eqb (x % 2) 1 e)) (same-or-not (x % 2) 1)
 
 -- THE WORD OF ALL OF n BITS: each of them passes the test that the word's bits are, and it has no other
-module _ (t g : ℕ → Bool) (always : (k : ℕ) → t k ≡ true) where
-  pub full-word : (n i first x : ℕ) → ((j : ℕ) → j < n → hasBit x j ≡ g (first + j)) → ((j : ℕ) → n ≤ j → hasBit x j ≡ false) →
-      eqb x (bitsOf t i n) ≡ all g (upFrom first n)
-  unfolding bitsOf all upFrom
-  full-word zero i first x h u = eq-eqb x 0 (no-bits x (λ j. u j (omega arith)))
-  full-word (suc n) i first x h u =
-      rw (always i)
-      (odd-same x (bitsOf t (suc i) n) ∙
-      ap₂ (λ (a b : Bool). a && b) (sym (bit-zero x) ∙ h 0 (omega arith) ∙ ap g (omega arith))
-      (full-word n (suc i) (suc first) (x / 2)
-      (λ j l. sym (bit-suc x j) ∙ h (suc j) (omega arith) ∙ ap g (omega arith)) (λ j l. sym (bit-suc x j) ∙ u (suc j) (omega arith))))
+pub full-word : (g : ℕ → Bool) (n i first x : ℕ) → ((j : ℕ) → j < n → hasBit x j ≡ g (first + j)) → ((j : ℕ) → n ≤ j → hasBit x j ≡ false) →
+    eqb x (bitsOf (λ k. true) i n) ≡ all g (upFrom first n)
+unfolding bitsOf all upFrom
+full-word g zero i first x h u = eq-eqb x 0 (no-bits x (λ j. u j (omega arith)))
+full-word g (suc n) i first x h u =
+    odd-same x (bitsOf (λ k. true) (suc i) n) ∙
+    ap₂ (λ (a b : Bool). a && b) (sym (bit-zero x) ∙ h 0 (omega arith) ∙ ap g (omega arith))
+    (full-word g n (suc i) (suc first) (x / 2)
+    (λ j l. sym (bit-suc x j) ∙ h (suc j) (omega arith) ∙ ap g (omega arith)) (λ j l. sym (bit-suc x j) ∙ u (suc j) (omega arith)))

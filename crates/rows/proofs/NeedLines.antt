@@ -1,27 +1,39 @@
 -- Over tables that hold a catalogue the row of a need line stands for the line (`need-stands`). Assumes nothing.
-use mathlib.Core.Path.{_≡_, sym, _∙_, ap}
-use mathlib.Core.Bool.{Bool, true, false, not, cond}
+use mathlib.Core.Path.{_≡_, refl, sym, _∙_, ap}
+use mathlib.Core.Bool.{Bool, true, false, _||_, not, cond}
 use Prim.Native.Nat.{ℕ, suc, _+_, _≤_, _<_}
 use native.Mathlib.Omega.{arith}
-use borrow.Author.Tests.{ne-eqb}
+use borrow.Author.Tests.{eq-eqb, ne-eqb}
 use lib.Dec.{eqb, eqb·zero-suc, eqb·suc-suc}
 use lib.ListN.{getD}
 use Rattle.rules.specs.Catalogue.{Catalogue, versionAtPlace, needAt, needyOf, isWithin, inRange}
 use Rattle.rules.specs.Sheet.{needLine}
-use Rattle.rules.proofs.Lists.{cond-same, cond-false}
+use Rattle.rules.proofs.Lists.{cond-true, cond-false}
 use Rattle.store.specs.Tables.{Holds}
 use Rattle.store.specs.declared.tables.Tables.{Tables}
-use Rattle.rows.specs.Bits.{hasBit, marks}
+use Rattle.rows.specs.Bits.{hasBit}
 use Rattle.rows.specs.Area.{absentWord}
 use Rattle.rows.specs.Needed.{citedIn, needBit, needVersions, needWord}
 use Rattle.rows.specs.Stands.{Narrow}
 use Rattle.rows.specs.Laws.{NeedStands}
 use Rattle.rows.specs.declared.needed.Cited.{Cited}
-use Rattle.rows.proofs.Standing.{row-bit, row-no-bit, built-bit, no-built-bit, few-modules}
+use Rattle.rows.proofs.Building.{in-word-small}
+use Rattle.rows.proofs.Standing.{row-bit, row-no-bit, built-bit, no-built-bit, before-absent}
+
+-- a test that asks first whether either of two holds
+either-first : (b y e v : Bool) → cond (b || e) (cond b y v) true ≡ cond b y (cond e v true)
+either-first true y e v = refl
+either-first false y e v = refl
 
 -- tests of the same parts
-same-test : {a b x y d e u v : Bool} → a ≡ b → x ≡ y → d ≡ e → u ≡ v → cond a x (cond d u true) ≡ cond b y (cond e v true)
-same-test p q r s = rw (p, q, r, s)
+same-test : {a b x y d e u v : Bool} → a ≡ b → x ≡ y → d ≡ e → u ≡ v → cond (a || d) (cond a x u) true ≡ cond b y (cond e v true)
+same-test {b = b} {y = y} {e = e} {v = v} p q r s = rw (p, q, r, s) (either-first b y e v)
+
+-- absent is no version of the needing module, and is in every other set
+absent-test : (b e : Bool) {x : Bool} → x ≡ false → not b ≡ cond b x (cond e true true)
+absent-test true e h = sym h
+absent-test false true h = refl
+absent-test false false h = refl
 
 module _ (t : Tables) (c : Catalogue) (holds : Holds t c) (k : ℕ) where
   -- the need as the tables have it
@@ -43,24 +55,28 @@ module _ (t : Tables) (c : Catalogue) (holds : Holds t c) (k : ℕ) where
       (outside-same i)
 
   -- and so is absent
-  absent-in : (m : ℕ) → marks (need .needy .0) false true m ≡ needLine c k m 0
+  absent-in : (m : ℕ) → not (eqb m (need .needy .0)) ≡ needLine c k m 0
   unfolding needLine
   absent-in m =
-      ap (λ (n : ℕ). cond (eqb m n) false true) needy-is ∙ ap (cond (eqb m (needyOf c k)) false) (cond-same (eqb m (needAt c k .target))) ∙
-      ap (λ (b : Bool). cond (eqb m (needyOf c k)) b (cond (eqb m (needAt c k .target)) true true)) (sym (eqb·zero-suc (needAt c k .version)))
+      ap (λ (n : ℕ). not (eqb m n)) needy-is ∙
+      absent-test (eqb m (needyOf c k)) (eqb m (needAt c k .target)) (eqb·zero-suc (needAt c k .version))
 
   module _ (narrow : Narrow t c) where
+    abbrev absent : ℕ
+    absent = absentWord (c .modules)
+
     abbrev word : ℕ → ℕ
-    word = needWord (t .values) (t .firsts) (t .counts) (c .modules) need
+    word = needWord (t .values) (t .firsts) (t .counts) absent need
 
     -- a module's word is no word of absent
     word-is : (m : ℕ) → m < c .modules → word m ≡ needVersions (t .values) (t .firsts) (t .counts) need m
-    word-is m l = cond-false _ _ (ne-eqb m absentWord (λ e. omega (arith, few-modules narrow l)))
+    word-is m l = cond-false _ _ (ne-eqb m absent (λ e. omega (arith, before-absent narrow l)))
 
-    absent-bit : (m : ℕ) → m < c .modules → hasBit (word absentWord) m ≡ needLine c k m 0
+    absent-bit : (m : ℕ) → m < c .modules → hasBit (word absent) m ≡ needLine c k m 0
     absent-bit m l =
-        built-bit (marks (need .needy .0) false true) 0 (c .modules) m (narrow .modules) l ∙
-        ap (marks (need .needy .0) false true) (omega arith) ∙ absent-in m
+        ap (λ (x : ℕ). hasBit x m) (cond-true _ _ (eq-eqb absent absent refl)) ∙
+        built-bit (λ i. not (eqb i (need .needy .0))) 0 absent m (in-word-small (c .modules)) (before-absent narrow l) ∙
+        ap (λ (i : ℕ). not (eqb i (need .needy .0))) (omega arith) ∙ absent-in m
 
     version-bit : (m j : ℕ) → m < c .modules → j < getD (t .counts) m 0 → hasBit (word m) j ≡ needLine c k m (suc (getD (t .firsts) m 0 + j))
     version-bit m j l i =
@@ -77,10 +93,14 @@ module _ (t : Tables) (c : Catalogue) (holds : Holds t c) (k : ℕ) where
 pub need-stands : NeedStands
 need-stands t c holds narrow area row k fits =
     record {
-      absent = λ m l. row-bit area row g fits absentWord m (omega arith) (few-modules narrow l) ∙ absent-bit t c holds k narrow m l;
+      absent = λ m l.
+          row-bit area row (c .modules) g fits (absentWord (c .modules)) m (omega arith) (omega (arith, narrow .modules)) ∙
+          absent-bit t c holds k narrow m l;
       versions = λ m j l i.
-          row-bit area row g fits m j (omega (arith, few-modules narrow l)) (omega (arith, narrow .versions m)) ∙ version-bit t c holds k narrow m j l i;
-      unused = λ m j l i. row-no-bit area row g fits m j (omega (arith, few-modules narrow l)) (no-version-bit t c holds k narrow m j l i);
+          row-bit area row (c .modules) g fits m j (omega (arith, before-absent narrow l)) (omega (arith, narrow .versions m)) ∙
+          version-bit t c holds k narrow m j l i;
+      unused = λ m j l i.
+          row-no-bit area row (c .modules) g fits m j (omega (arith, before-absent narrow l)) (no-version-bit t c holds k narrow m j l i);
     }
   where
     g : ℕ → ℕ

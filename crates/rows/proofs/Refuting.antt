@@ -9,12 +9,12 @@ use lib.ListN.{length, getD}
 use Rattle.rules.specs.Lists.{all, upFrom, below}
 use Rattle.rules.specs.Catalogue.{Catalogue, WellFormed, placesOf}
 use Rattle.rules.specs.Sheet.{Incompatibility, isFull, refutes}
-use Rattle.rules.proofs.Lists.{cond-same, below-mem, length-upFrom}
+use Rattle.rules.proofs.Lists.{below-mem, length-upFrom}
 use Rattle.rules.proofs.Partials.{root-fits}
 use Rattle.store.specs.Tables.{Holds}
 use Rattle.store.specs.declared.tables.Tables.{Tables}
-use Rattle.rows.specs.Bits.{hasBit, bitsOf, marks}
-use Rattle.rows.specs.Area.{wordAt}
+use Rattle.rows.specs.Bits.{hasBit, bitsOf}
+use Rattle.rows.specs.Area.{wordAt, absentWord}
 use Rattle.rows.specs.Derived.{isFullIn, refutesIn}
 use Rattle.rows.specs.Stands.{Stands, Narrow}
 use Rattle.rows.specs.Laws.{RefutesLaw}
@@ -32,11 +32,11 @@ module _
     (area : List ℕ) (row : ℕ) (f : Incompatibility) (s : Stands t c area row f)
   where
     -- a module's set is full in the row just if it is by the rules
-    full-same : (m : ℕ) → m < c .modules → isFullIn area row (t .counts) m ≡ isFull c f m
+    full-same : (m : ℕ) → m < c .modules → isFullIn area row (absentWord (c .modules)) (t .counts) m ≡ isFull c f m
     full-same m l =
         ap₂ (λ (a b : Bool). a && b) (s .absent m l)
-        (ap (λ (n : ℕ). eqb (wordAt area row m) (bitsOf (marks 0 true true) 0 n)) (in-word (getD (t .counts) m 0) (narrow .versions m)) ∙
-        full-word (marks 0 true true) (λ (i : ℕ). f m (suc i)) (λ k. sym (cond-same (eqb k 0))) (getD (t .counts) m 0) 0 (getD (t .firsts) m 0)
+        (ap (λ (n : ℕ). eqb (wordAt area row m) (bitsOf (λ i. true) 0 n)) (in-word (getD (t .counts) m 0) (narrow .versions m)) ∙
+        full-word (λ (i : ℕ). f m (suc i)) (getD (t .counts) m 0) 0 (getD (t .firsts) m 0)
         (wordAt area row m) (λ j i. s .versions m j l i) (λ j i. s .unused m j l i) ∙
         ap (all (λ (i : ℕ). f m (suc i))) (sym (holds .places m)))
 

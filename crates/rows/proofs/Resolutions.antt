@@ -3,24 +3,24 @@ use mathlib.Core.Path.{_≡_, refl, sym, _∙_, ap, ap₂}
 use mathlib.Core.Bool.{Bool, true, false, _&&_, _||_, cond, and-false, or-true}
 use Prim.Native.Nat.{ℕ, _<_}
 use native.Mathlib.Omega.{arith}
-use borrow.Author.Tests.{ne-eqb}
+use borrow.Author.Tests.{eq-eqb, ne-eqb}
 use lib.Bits.{bitAnd, bitOr}
 use lib.Dec.{eqb}
 use Rattle.rules.specs.Sheet.{resolved}
-use Rattle.rules.proofs.Lists.{cond-same, cond-false}
-use Rattle.rows.specs.Bits.{hasBit, bitsOf, marks}
+use Rattle.rules.proofs.Lists.{cond-same, cond-true, cond-false}
+use Rattle.rows.specs.Bits.{hasBit, oneBit}
 use Rattle.rows.specs.Area.{wordAt, absentWord}
-use Rattle.rows.specs.Derived.{resolvedAbsent, resolvedWord}
+use Rattle.rows.specs.Derived.{resolvedWord}
 use Rattle.rows.specs.Laws.{ResolvedStands}
 use Rattle.rows.proofs.Halving.{or-bits, and-bits}
-use Rattle.rows.proofs.Standing.{row-bit, row-no-bit, built-bit, few-modules}
+use Rattle.rows.proofs.Standing.{row-bit, row-no-bit, built-bit, before-absent}
 
 -- the union at the module resolved at, the intersection at every other
 abbrev joined : (here one other : Bool) → Bool
 joined e p q = cond e (p || q) (p && q)
 
 -- of two words of absent
-masked : (e p q : Bool) → ((p && q) || ((p || q) && cond e true false)) ≡ joined e p q
+masked : (e p q : Bool) → ((p && q) || ((p || q) && e)) ≡ joined e p q
 masked true true q = or-true q
 masked true false true = refl
 masked true false false = refl
@@ -28,21 +28,18 @@ masked false true true = refl
 masked false true false = refl
 masked false false q = and-false q
 
-absent-bit : (m x y k : ℕ) → k < 32 → hasBit (resolvedAbsent m x y) k ≡ joined (eqb k m) (hasBit x k) (hasBit y k)
-absent-bit m x y k l =
-    or-bits (bitAnd x y) (bitAnd (bitOr x y) mask) k ∙
-    ap₂ (λ (a b : Bool). a || b) (and-bits x y k) (and-bits (bitOr x y) mask k ∙ ap₂ (λ (a b : Bool). a && b) (or-bits x y k) here) ∙
+absent-bit : (w m x y k : ℕ) → k < 32 → hasBit (resolvedWord w m x y w) k ≡ joined (eqb k m) (hasBit x k) (hasBit y k)
+absent-bit w m x y k l =
+    ap (λ (z : ℕ). hasBit z k) (cond-true _ _ (eq-eqb w w refl)) ∙ or-bits (bitAnd x y) (bitAnd (bitOr x y) (oneBit m)) k ∙
+    ap₂ (λ (a b : Bool). a || b) (and-bits x y k) (and-bits (bitOr x y) (oneBit m) k ∙ ap₂ (λ (a b : Bool). a && b) (or-bits x y k) here) ∙
     masked (eqb k m) (hasBit x k) (hasBit y k)
   where
-    mask : ℕ
-    mask = bitsOf (marks m true false) 0 32
-
-    here : hasBit mask k ≡ cond (eqb k m) true false
-    here = built-bit (marks m true false) 0 32 k (omega arith) l ∙ ap (marks m true false) (omega arith)
+    here : hasBit (oneBit m) k ≡ eqb k m
+    here = built-bit (λ i. eqb i m) 0 32 k (omega arith) l ∙ ap (λ (i : ℕ). eqb i m) (omega arith)
 
 -- of two words of a module
-version-bit : (m x y k j : ℕ) → k < 32 → hasBit (resolvedWord m x y k) j ≡ joined (eqb k m) (hasBit x j) (hasBit y j)
-version-bit m x y k j l = ap (λ (z : ℕ). hasBit z j) (cond-false _ _ (ne-eqb k absentWord (λ e. omega arith))) ∙ go (eqb k m)
+version-bit : (w m x y k j : ℕ) → k < w → hasBit (resolvedWord w m x y k) j ≡ joined (eqb k m) (hasBit x j) (hasBit y j)
+version-bit w m x y k j l = ap (λ (z : ℕ). hasBit z j) (cond-false _ _ (ne-eqb k w (λ e. omega arith))) ∙ go (eqb k m)
   where
     go : (e : Bool) → hasBit (cond e (bitOr x y) (bitAnd x y)) j ≡ joined e (hasBit x j) (hasBit y j)
     go true = or-bits x y j
@@ -54,19 +51,22 @@ unfolding resolved
 resolved-stands t c narrow area row one other at f g fits s u =
     record {
       absent = λ m l.
-          row-bit area row words fits absentWord m (omega arith) (few-modules narrow l) ∙
-          absent-bit at (wordAt area one absentWord) (wordAt area other absentWord) m (few-modules narrow l) ∙
+          row-bit area row (c .modules) words fits w m (omega arith) (omega (arith, narrow .modules)) ∙
+          absent-bit w at (wordAt area one w) (wordAt area other w) m (omega (arith, narrow .modules)) ∙
           ap₂ (joined (eqb m at)) (s .absent m l) (u .absent m l);
       versions = λ m j l i.
-          row-bit area row words fits m j (omega (arith, few-modules narrow l)) (omega (arith, narrow .versions m)) ∙ bit m j l ∙
+          row-bit area row (c .modules) words fits m j (omega (arith, before-absent narrow l)) (omega (arith, narrow .versions m)) ∙ bit m j l ∙
           ap₂ (joined (eqb m at)) (s .versions m j l i) (u .versions m j l i);
       unused = λ m j l i.
-          row-no-bit area row words fits m j (omega (arith, few-modules narrow l))
+          row-no-bit area row (c .modules) words fits m j (omega (arith, before-absent narrow l))
           (bit m j l ∙ ap₂ (joined (eqb m at)) (s .unused m j l i) (u .unused m j l i) ∙ sym (cond-same (eqb m at)));
     }
   where
+    w : ℕ
+    w = absentWord (c .modules)
+
     words : ℕ → ℕ
-    words j = resolvedWord at (wordAt area one j) (wordAt area other j) j
+    words j = resolvedWord w at (wordAt area one j) (wordAt area other j) j
 
     bit : (m j : ℕ) → m < c .modules → hasBit (words m) j ≡ joined (eqb m at) (hasBit (wordAt area one m) j) (hasBit (wordAt area other m) j)
-    bit m j l = version-bit at (wordAt area one m) (wordAt area other m) m j (few-modules narrow l)
+    bit m j l = version-bit w at (wordAt area one m) (wordAt area other m) m j (before-absent narrow l)

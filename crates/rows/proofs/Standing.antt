@@ -2,7 +2,7 @@
 use mathlib.Core.Path.{_≡_, _∙_, ap}
 use mathlib.Core.Bool.{Bool, false, _&&_, and-false}
 use mathlib.Core.List.{List}
-use Prim.Native.Nat.{ℕ, _+_, _≤_, _<_}
+use Prim.Native.Nat.{ℕ, suc, _+_, _≤_, _<_}
 use native.Mathlib.Omega.{arith}
 use native.Mathlib.Nat.{min-eq-left}
 use borrow.Author.Tests.{lt-ltb, le-ltb}
@@ -13,19 +13,22 @@ use Rattle.rows.specs.Bits.{hasBit, bitsOf, inWord}
 use Rattle.rows.specs.Area.{wordAt, withRow, absentWord}
 use Rattle.rows.specs.Stands.{HasRow, Narrow}
 use Rattle.rows.specs.Laws.{OthersKept}
+use Rattle.rows.proofs.Building.{in-word-small}
 use Rattle.rows.proofs.Words.{words-other, words-same}
 use Rattle.rows.proofs.Halving.{bits-read, bits-cut}
 
 -- A ROW AS WRITTEN has the bits of the words that were written
-module _ (area : List ℕ) (row : ℕ) (g : ℕ → ℕ) (fits : HasRow area row) (word j : ℕ) (l : word < 33) where
-  cut-bit : hasBit (wordAt (withRow area row g) row word) j ≡ (ltb j 32 && hasBit (g word) j)
-  cut-bit = ap (λ (x : ℕ). hasBit x j) (words-same area row g 33 word l (omega arith)) ∙ bits-cut (g word) 32 j
+module _ (area : List ℕ) (row ms : ℕ) (g : ℕ → ℕ) (fits : HasRow area row) (word j : ℕ) (l : word ≤ absentWord ms) where
+  cut-bit : hasBit (wordAt (withRow area row ms g) row word) j ≡ (ltb j 32 && hasBit (g word) j)
+  cut-bit =
+      ap (λ (x : ℕ). hasBit x j) (words-same area row g (suc (absentWord ms)) word (omega arith) (omega (arith, in-word-small ms))) ∙
+      bits-cut (g word) 32 j
 
-  pub row-bit : j < 32 → hasBit (wordAt (withRow area row g) row word) j ≡ hasBit (g word) j
+  pub row-bit : j < 32 → hasBit (wordAt (withRow area row ms g) row word) j ≡ hasBit (g word) j
   row-bit h = cut-bit ∙ ap (λ (b : Bool). b && hasBit (g word) j) (lt-ltb j 32 h)
 
   -- a bit that a word does not have is not there afterwards
-  pub row-no-bit : hasBit (g word) j ≡ false → hasBit (wordAt (withRow area row g) row word) j ≡ false
+  pub row-no-bit : hasBit (g word) j ≡ false → hasBit (wordAt (withRow area row ms g) row word) j ≡ false
   row-no-bit h = cut-bit ∙ ap (λ (b : Bool). ltb j 32 && b) h ∙ and-false (ltb j 32)
 
 -- no more numbers than a word has bits
@@ -43,18 +46,19 @@ module _ (f : ℕ → Bool) (first n j : ℕ) (l : n ≤ 32) where
   pub no-built-bit : n ≤ j → hasBit (bitsOf f first (inWord n)) j ≡ false
   no-built-bit h = built-read ∙ ap (λ (b : Bool). b && f (first + j)) (le-ltb j n h)
 
--- a module's number is one of a module's word
-pub few-modules : {t : Tables} {c : Catalogue} {m : ℕ} → Narrow t c → m < c .modules → m < 32
-few-modules narrow l = omega (arith, narrow .modules)
+-- a module's word stands before the word of absent
+pub before-absent : {t : Tables} {c : Catalogue} {m : ℕ} → Narrow t c → m < c .modules → m < absentWord (c .modules)
+before-absent {c = c} narrow l = omega (arith, in-word (c .modules) (narrow .modules))
 
 -- THE LAW: other rows are read as before
 pub others-kept : OthersKept
 others-kept t c narrow area row other g f n s =
     record {
-      absent = λ m l. rw (kept absentWord (omega arith)) (s .absent m l);
-      versions = λ m j l i. rw (kept m (omega (arith, few-modules narrow l))) (s .versions m j l i);
-      unused = λ m j l i. rw (kept m (omega (arith, few-modules narrow l))) (s .unused m j l i);
+      absent = λ m l. rw (kept (absentWord (c .modules)) (omega arith)) (s .absent m l);
+      versions = λ m j l i. rw (kept m (omega (arith, before-absent narrow l))) (s .versions m j l i);
+      unused = λ m j l i. rw (kept m (omega (arith, before-absent narrow l))) (s .unused m j l i);
     }
   where
-    kept : (word : ℕ) → word < 33 → wordAt (withRow area row g) other word ≡ wordAt area other word
-    kept word l = words-other area row g 33 other word (λ j i e. n (omega arith))
+    kept : (word : ℕ) → word ≤ absentWord (c .modules) → wordAt (withRow area row (c .modules) g) other word ≡ wordAt area other word
+    kept word l =
+        words-other area row g (suc (absentWord (c .modules))) other word (λ j i e. n (omega (arith, in-word-small (c .modules))))

@@ -10,7 +10,8 @@ use lib.Arith.{mod-mul}
 use lib.ListN.{length, getD, set, length-set}
 use lib.Seq.{getD-set-same, getD-set-other}
 use Rattle.rules.proofs.Lists.{same-or-not}
-use Rattle.rows.specs.Area.{byteOf, wordAt, withWord, withWords, withRow}
+use Rattle.rows.specs.Area.{byteOf, wordAt, withWord, withWords, withRow, absentWord}
+use Rattle.rows.proofs.Building.{in-word-small}
 
 -- A WORD WRITTEN keeps the area's length
 word-size : (l : List ℕ) (r j x : ℕ) → length (withWord l r j x) ≡ length l
@@ -115,30 +116,37 @@ module _ (l : List ℕ) (r : ℕ) (g : ℕ → ℕ) where
       (λ d. word-other (withWords l r g n) r n (g n) r j (λ e. d (omega arith)) ∙ words-same n j (omega arith) (omega arith))
       (same-or-not j n)
 
--- FILLED SO FAR: the first j words of a row
-pub record Filled (old : List ℕ) (r : ℕ) (g : ℕ → ℕ) (area : List ℕ) (j : ℕ) : Type 0 where
-  pub within : j ≤ 33
+-- FILLED SO FAR: the first j words of a row whose word of absent is word w
+pub record Filled (old : List ℕ) (r : ℕ) (g : ℕ → ℕ) (w : ℕ) (area : List ℕ) (j : ℕ) : Type 0 where
+  pub room : w ≤ 32
+  pub within : j ≤ suc w
   pub size : length area ≡ length old
   pub same : area ≡ withWords old r g j
 
-module _ (old : List ℕ) (r : ℕ) (g : ℕ → ℕ) where
-  pub none-filled : Filled old r g old 0
+pub none-filled : (old : List ℕ) (r : ℕ) (g : ℕ → ℕ) (ms : ℕ) {w : ℕ} → w ≡ absentWord ms → Filled old r g w old 0
+unfolding withWords
+none-filled old r g ms e = record { room = omega (arith, in-word-small ms); within = omega arith; size = refl; same = refl }
+
+module _ (old : List ℕ) (r : ℕ) (g : ℕ → ℕ) {w : ℕ} {area : List ℕ} {j : ℕ} (f : Filled old r g w area j) where
+  pub word-filled : {next : List ℕ} {x : ℕ} → j ≤ w → x ≡ g j → next ≡ withWord area r j x → Filled old r g w next (j + 1)
   unfolding withWords
-  none-filled = record { within = omega arith; size = refl; same = refl }
+  word-filled {next} {x} h e s =
+      record {
+        room = f .room;
+        within = omega arith;
+        size = ap length s ∙ word-size area r j x ∙ f .size;
+        same = s ∙ rw (e, add-one, f .same);
+      }
 
-  module _ {area : List ℕ} {j : ℕ} (f : Filled old r g area j) where
-    pub word-filled : {next : List ℕ} {x : ℕ} → j < 33 → x ≡ g j → next ≡ withWord area r j x → Filled old r g next (j + 1)
-    unfolding withWords
-    word-filled {next} {x} h e s =
-        record {
-          within = omega arith;
-          size = ap length s ∙ word-size area r j x ∙ f .size;
-          same = s ∙ rw (e, add-one, f .same);
-        }
+  -- word j of any row is read as it was: it is not written yet
+  pub not-yet : (q : ℕ) → j ≤ w → wordAt area q j ≡ wordAt old q j
+  not-yet q h =
+      ap (λ (l : List ℕ). wordAt l q j) (f .same) ∙
+      words-other old r g j q j (λ i l e. let same : q ≡ r = omega (arith, f .room) in omega arith)
 
-    pub all-filled : 33 ≤ j → area ≡ withRow old r g
-    all-filled h = let e : j ≡ 33 = omega (arith, f .within) in f .same ∙ ap (withWords old r g) e
-
-    -- word j of any row is read as it was: it is not written yet
-    pub not-yet : (q : ℕ) → j < 33 → wordAt area q j ≡ wordAt old q j
-    not-yet q h = ap (λ (l : List ℕ). wordAt l q j) (f .same) ∙ words-other old r g j q j (λ i l e. let same : q ≡ r = omega arith in omega arith)
+-- the whole row, whose words go by which of them is the word of absent
+pub all-filled : (old : List ℕ) (r : ℕ) (g : (absent word : ℕ) → ℕ) (ms : ℕ) {w : ℕ} {area : List ℕ} {j : ℕ} → w ≡ absentWord ms →
+    Filled old r (g w) w area j → w < j → area ≡ withRow old r ms (g (absentWord ms))
+all-filled old r g ms {w} {j = j} e f h =
+    let whole : j ≡ suc w = omega (arith, f .within) in
+    f .same ∙ ap (withWords old r (g w)) whole ∙ ap (λ (k : ℕ). withWords old r (g k) (suc k)) e

@@ -1,7 +1,8 @@
--- A byte area as rows of 33 words, each of four bytes, high byte first. Assumes nothing: these are definitions.
+-- A byte area as rows of words, each of four bytes, high byte first; a row has room for 33. Assumes nothing: these are definitions.
 use mathlib.Core.List.{List}
 use Prim.Native.Nat.{ℕ, zero, suc, _+_, _*_, _/_, _%_}
 use lib.ListN.{getD, set}
+use Rattle.rows.specs.Bits.{inWord}
 
 -- where a word of a row begins
 abbrev pub byteOf : (row word : ℕ) → ℕ
@@ -22,10 +23,10 @@ unfoldable pub withWords : (area : List ℕ) → (row : ℕ) → (value : ℕ �
 withWords l r g zero = l
 withWords l r g (suc n) = withWord (withWords l r g n) r n (g n)
 
--- the area after a row is written
-abbrev pub withRow : (area : List ℕ) → (row : ℕ) → (value : ℕ → ℕ) → List ℕ
-withRow l r g = withWords l r g 33
+-- the word of a row that says which modules' sets have absent: it stands behind the modules' words, which are no more than a word has bits
+abbrev pub absentWord : (modules : ℕ) → ℕ
+absentWord ms = inWord ms
 
--- the word of a row that says which modules' sets have absent
-abbrev pub absentWord : ℕ
-absentWord = 32
+-- the area after a row is written: the modules' words, and the word of absent
+abbrev pub withRow : (area : List ℕ) → (row modules : ℕ) → (value : ℕ → ℕ) → List ℕ
+withRow l r ms g = withWords l r g (suc (absentWord ms))

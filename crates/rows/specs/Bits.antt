@@ -1,5 +1,5 @@
 -- Words as sets of numbers, by their bits. Assumes nothing: these are definitions.
-use mathlib.Core.Bool.{Bool, true, false, cond}
+use mathlib.Core.Bool.{Bool, true, false, not}
 use Prim.Native.Nat.{ℕ, zero, suc, _+_, _*_, _/_, _%_, min}
 use lib.Dec.{eqb}
 
@@ -22,10 +22,14 @@ bitsOf f i (suc n) = bitsOf f (suc i) n * 2 + digit (f i)
 abbrev pub inWord : (count : ℕ) → ℕ
 inWord n = min n 32
 
--- the test that has one answer at a number and another everywhere else
-abbrev pub marks : (at : ℕ) → (there elsewhere : Bool) → ℕ → Bool
-marks k a b = λ i. cond (eqb i k) a b
+-- the word of one bit: it has none where the bit is past a word's last
+abbrev pub oneBit : (at : ℕ) → ℕ
+oneBit k = bitsOf (λ i. eqb i k) 0 32
 
--- the word of all of the first n bits
+-- the word of all of the first bits
 abbrev pub allBits : (count : ℕ) → ℕ
-allBits n = bitsOf (marks 0 true true) 0 (inWord n)
+allBits n = bitsOf (λ i. true) 0 (inWord n)
+
+-- the word of all of the first bits but one
+abbrev pub allBut : (count at : ℕ) → ℕ
+allBut n k = bitsOf (λ i. not (eqb i k)) 0 (inWord n)

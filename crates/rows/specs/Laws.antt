@@ -23,12 +23,12 @@ NeedStands = (t : Tables) (c : Catalogue) → Holds t c → Narrow t c → (area
 abbrev pub ResolvedStands : Type 0
 ResolvedStands = (t : Tables) (c : Catalogue) → Narrow t c → (area : List ℕ) (row one other at : ℕ) (f g : Incompatibility) →
     HasRow area row → Stands t c area one f → Stands t c area other g →
-    Stands t c (resolvedRow area row one other at) row (resolved at f g)
+    Stands t c (resolvedRow area row (c .modules) one other at) row (resolved at f g)
 
 -- writing a row leaves what another row stands for
 abbrev pub OthersKept : Type 0
 OthersKept = (t : Tables) (c : Catalogue) → Narrow t c → (area : List ℕ) (row other : ℕ) (value : ℕ → ℕ) (f : Incompatibility) →
-    other ≢ row → Stands t c area other f → Stands t c (withRow area row value) other f
+    other ≢ row → Stands t c area other f → Stands t c (withRow area row (c .modules) value) other f
 
 -- a row refutes just if the incompatibility that it stands for does
 abbrev pub RefutesLaw : Type 0

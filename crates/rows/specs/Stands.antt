@@ -13,7 +13,7 @@ use Rattle.rows.specs.Area.{wordAt, absentWord}
 -- a row of the area stands for an incompatibility of a catalogue that the tables hold: a module's word has bit j just if the module's j-th version,
 -- oldest first, is in its set, and no bit that stands for no version; the word of absent has a module's bit just if absent is in its set
 pub record Stands (t : Tables) (c : Catalogue) (area : List ℕ) (row : ℕ) (f : Incompatibility) : Type 0 where
-  pub absent : (m : ℕ) → m < c .modules → hasBit (wordAt area row absentWord) m ≡ f m 0
+  pub absent : (m : ℕ) → m < c .modules → hasBit (wordAt area row (absentWord (c .modules))) m ≡ f m 0
   pub versions : (m j : ℕ) → m < c .modules → j < getD (t .counts) m 0 → hasBit (wordAt area row m) j ≡ f m (suc (getD (t .firsts) m 0 + j))
   pub unused : (m j : ℕ) → m < c .modules → getD (t .counts) m 0 ≤ j → hasBit (wordAt area row m) j ≡ false
 

@@ -1,17 +1,21 @@
 // A lent byte area as rows of words: 0 is read past the end, and nothing is written there.
 ghost use mathlib.Core.Path.{_≡_};
 ghost use lib.ListN.{getD, set};
-ghost use Rattle.rows.specs.Area.{wordAt, withWord};
+ghost use Rattle.rows.specs.Area.{wordAt, withWord, absentWord};
+use crate::bits;
 use store::limits::MODULES;
 
-// The word of a row that says which modules' sets have absent; the words before it are the modules'.
-pub const ABSENT: u16 = MODULES;
-// Words of a row.
-pub const WORDS: u16 = ABSENT + 1;
 // Bytes of a word.
 pub const WORD_BYTES: usize = 4;
-// Bytes of a row.
-pub const ROW_BYTES: usize = WORD_BYTES * WORDS as usize;
+// Bytes from a row to the next: room for a word for each module, and one more.
+pub const ROW_BYTES: usize = WORD_BYTES * (MODULES as usize + 1);
+
+// The word of a row that says which modules' sets have absent: it stands behind the modules' words, which are no more than a word has bits.
+pub fn absent_word(modules: u16) -> u16
+    ensures { λ r. ⌜ r ≡ absentWord modules ⌝ }
+{
+    bits::in_word(modules)
+}
 
 fn byte_at(area: &[u8], i: usize) -> u8
     ensures { λ r. ⌜ r ≡ getD (now (area .entry)) i 0 ⌝ }

@@ -1,8 +1,6 @@
-// Words of bits: built from the last bit down, and read bit by bit.
+// Words of bits: one bit and all bits by a shift, any others built from the last bit down; and the bits of a word.
 ghost use mathlib.Core.Path.{_≡_};
-ghost use mathlib.Core.Bool.{cond};
-ghost use lib.Dec.{eqb};
-ghost use Rattle.rows.specs.Bits.{digit, hasBit, bitsOf, inWord, marks};
+ghost use Rattle.rows.specs.Bits.{digit, hasBit, inWord, allBits, allBut, oneBit};
 
 // Bits of a word.
 pub const BITS: u16 = 32;
@@ -27,26 +25,35 @@ pub fn in_word(count: u16) -> u16
     BITS
 }
 
-// One answer at a number, another everywhere else.
-fn mark(k: u16, at: u16, there: bool, elsewhere: bool) -> bool
-    ensures { λ r. ⌜ r ≡ cond (eqb k at) there elsewhere ⌝ }
+// The word of one bit: it has none where the bit is past a word's last.
+pub fn one_bit(at: u16) -> u32
+    ensures { λ r. ⌜ r ≡ oneBit at ⌝ }
 {
-    if k == at {
-        return there;
+    if at < BITS {
+        return 1u32 << at;
     }
-    elsewhere
+    0
 }
 
-// The word of so many bits that has one bit at a number and another everywhere else.
-pub fn marked(count: u16, at: u16, there: bool, elsewhere: bool) -> u32
-    ensures { λ r. ⌜ r ≡ bitsOf (marks at there elsewhere) 0 (inWord count) ⌝ }
+// The word of all of the first bits.
+pub fn all_bits(count: u16) -> u32
+    ensures { λ r. ⌜ r ≡ allBits count ⌝ }
+{
+    if count < BITS {
+        return one_bit(count) - 1;
+    }
+    0xffffffff
+}
+
+// The word of all of the first bits but one.
+pub fn all_but(count: u16, at: u16) -> u32
+    ensures { λ r. ⌜ r ≡ allBut count at ⌝ }
 {
     let mut word: u32 = 0;
     let mut k = in_word(count);
     while 0 < k {
         k -= 1;
-        let bit = mark(k, at, there, elsewhere);
-        word = word * 2 + digit_of(bit);
+        word = word * 2 + digit_of(k != at);
     }
     word
 }

@@ -1,10 +1,8 @@
 // The row of a need line: the needing module's set is that one version, the needed module's absent and every version outside the range, all others full.
 ghost use mathlib.Core.Path.{_≡_};
-ghost use Rattle.rows.specs.Area.{withRow};
-ghost use Rattle.rows.specs.Needed.{citedIn, needBit, needVersions, needWord, needRow};
+ghost use Rattle.rows.specs.Area.{withRow, absentWord};
+ghost use Rattle.rows.specs.Needed.{citedIn, namedBit, needVersions, needWord, needRow};
 use crate::area;
-use crate::area::ABSENT;
-use crate::area::WORDS;
 use crate::bits;
 use frames::numbers::ModuleNo;
 use frames::numbers::Place;
@@ -47,26 +45,22 @@ fn cited_at<'a>(
     }
 }
 
-// The version at a place is in its module's set.
-fn need_bit(values: &[u32], need: Cited, m: ModuleNo, place: u32) -> bool
-    ensures { λ r. ⌜ r ≡ needBit (now (values .entry)) need (m .0) place ⌝ }
+// The version at a place is in the set of a module that the need names.
+fn named_bit(values: &[u32], need: Cited, m: ModuleNo, place: u32) -> bool
+    ensures { λ r. ⌜ r ≡ namedBit (now (values .entry)) need (m .0) place ⌝ }
 {
     let needy = need.needy;
     if m.0 == needy.0 {
         let own = need.place;
         return place == own.0 as u32;
     }
-    let target = need.target;
-    if m.0 == target.0 {
-        let v = Version(access::word_at(values, place as usize));
-        let low = need.low;
-        let high = need.high;
-        return !v.is_within(low, high);
-    }
-    true
+    let v = Version(access::word_at(values, place as usize));
+    let low = need.low;
+    let high = need.high;
+    !v.is_within(low, high)
 }
 
-// A module's word: its versions that are in its set.
+// A module's word: its versions that are in its set. Those of a module that the need does not name all are.
 fn need_versions<'a>(
     values: &'a [u32],
     firsts: &'a [u16],
@@ -77,17 +71,22 @@ fn need_versions<'a>(
     ensures { λ r. ⌜ r ≡ needVersions (now (values .entry)) (now (firsts .entry)) (now (counts .entry)) need (m .0) ⌝ }
 {
     let places = lookup::versions_of(firsts, counts, m);
+    let needy = need.needy;
+    let target = need.target;
+    if !((m.0 == needy.0) | (m.0 == target.0)) {
+        return bits::all_bits(places.count);
+    }
     let mut word: u32 = 0;
     let mut k = bits::in_word(places.count);
     while 0 < k {
         k -= 1;
-        let bit = need_bit(values, need, m, places.first as u32 + k as u32);
+        let bit = named_bit(values, need, m, places.first as u32 + k as u32);
         word = word * 2 + bits::digit_of(bit);
     }
     word
 }
 
-// A word of the row: the word of absent has every module but the needing one.
+// A word of the row, over so many modules: the word of absent stands behind theirs and has every module but the needing one.
 fn need_word<'a>(
     values: &'a [u32],
     firsts: &'a [u16],
@@ -98,9 +97,9 @@ fn need_word<'a>(
 ) -> u32
     ensures { λ r. ⌜ r ≡ needWord (now (values .entry)) (now (firsts .entry)) (now (counts .entry)) modules need word ⌝ }
 {
-    if word == ABSENT {
+    if word == modules {
         let needy = need.needy;
-        return bits::marked(modules, needy.0, false, true);
+        return bits::all_but(modules, needy.0);
     }
     need_versions(values, firsts, counts, need, ModuleNo(word))
 }
@@ -115,12 +114,13 @@ fn write_need<'a>(
     modules: u16,
     need: Cited,
 )
-    ensures { λ r. ⌜ now (work .exit) ≡ withRow (now (work .entry)) row
-        (needWord (now (values .entry)) (now (firsts .entry)) (now (counts .entry)) modules need) ⌝ }
+    ensures { λ r. ⌜ now (work .exit) ≡ withRow (now (work .entry)) row modules
+        (needWord (now (values .entry)) (now (firsts .entry)) (now (counts .entry)) (absentWord modules) need) ⌝ }
 {
+    let absent = area::absent_word(modules);
     let mut j: u16 = 0;
-    while j < WORDS {
-        let x = need_word(values, firsts, counts, modules, need, j);
+    while j <= absent {
+        let x = need_word(values, firsts, counts, absent, need, j);
         area::put_word(work, row, j, x);
         j += 1;
     }

@@ -30,7 +30,7 @@ use Rattle.sheets.proofs.Kept.{Kept, kept-start, kept-step}
 -- a line kept leaves the area as long as it was
 line-size : (l : Lent) (area : List ℕ) (s : State) (f : Fields) → length (keptLine l area s f) ≡ length area
 unfolding keptLine
-line-size l area s f = go (eqb (f .kind) 33) (eqb (f .kind) 34) _ _ (words-size area (s .lines) _ 33) (words-size area (s .lines) _ 33)
+line-size l area s f = go (eqb (f .kind) 33) (eqb (f .kind) 34) _ _ (words-size area (s .lines) _ _) (words-size area (s .lines) _ _)
   where
     go : (a b : Bool) (x y : List ℕ) → length x ≡ length area → length y ≡ length area → length (cond a x (cond b y area)) ≡ length area
     go true b x y p q = p

@@ -83,11 +83,14 @@ module _ {t : Tables} {c : Catalogue} (holds : Holds t c) (narrow : Narrow t c) 
   abbrev next : ℕ
   next = length (u .entries)
 
-  rows-more : (e : Entry) (value : ℕ → ℕ) → Stands t c (withRow area next value) next (lineOf c (derived c (u .entries)) e) →
-      (i : ℕ) → i < length (longer (u .entries) e) → Stands t c (withRow area next value) i (getD (derived c (longer (u .entries) e)) i noIncompatibility)
+  abbrev with-next : (value : ℕ → ℕ) → List ℕ
+  with-next value = withRow area next (c .modules) value
+
+  rows-more : (e : Entry) (value : ℕ → ℕ) → Stands t c (with-next value) next (lineOf c (derived c (u .entries)) e) →
+      (i : ℕ) → i < length (longer (u .entries) e) → Stands t c (with-next value) i (getD (derived c (longer (u .entries) e)) i noIncompatibility)
   rows-more e value new i h =
       rw (derived-last c (u .entries) e)
-      (one-more noIncompatibility (derived c (u .entries)) line (λ k f. Stands t c (withRow area next value) k f) old (rw count new) i
+      (one-more noIncompatibility (derived c (u .entries)) line (λ k f. Stands t c (with-next value) k f) old (rw count new) i
       (omega (arith, count, length-last (derived c (u .entries)) line, length-last (u .entries) e)))
     where
       line : Incompatibility
@@ -96,7 +99,7 @@ module _ {t : Tables} {c : Catalogue} (holds : Holds t c) (narrow : Narrow t c) 
       count : length (derived c (u .entries)) ≡ length (u .entries)
       count = omega (arith, lines-length c [] (u .entries))
 
-      old : (k : ℕ) → k < length (derived c (u .entries)) → Stands t c (withRow area next value) k (getD (derived c (u .entries)) k noIncompatibility)
+      old : (k : ℕ) → k < length (derived c (u .entries)) → Stands t c (with-next value) k (getD (derived c (u .entries)) k noIncompatibility)
       old k l = others-kept t c narrow area next k value _ (omega (arith, count)) (kept .rows k (omega (arith, count)))
 
   -- a frame that fits
@@ -119,8 +122,8 @@ module _ {t : Tables} {c : Catalogue} (holds : Holds t c) (narrow : Narrow t c) 
         rw e (record { rows = λ i h. absurd (not-suc-le-zero h); few = omega arith; some = λ h. omega arith; over = λ h. absurd (one-not-two h) })
 
     -- a line that is due leaves one less due and one more read
-    line-kept : (e : Entry) (value : ℕ → ℕ) → 0 < u .due → Stands t c (withRow area next value) next (lineOf c (derived c (u .entries)) e) →
-        Kept t c (withRow area next value) (sheetReading 1 (u .due - 1) (longer (u .entries) e))
+    line-kept : (e : Entry) (value : ℕ → ℕ) → 0 < u .due → Stands t c (with-next value) next (lineOf c (derived c (u .entries)) e) →
+        Kept t c (with-next value) (sheetReading 1 (u .due - 1) (longer (u .entries) e))
     line-kept e value due new =
         let size = length-last (u .entries) e in
         record {

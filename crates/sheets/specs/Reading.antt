@@ -44,7 +44,7 @@ unfoldable pub keptLine : Lent → (area : List ℕ) → State → Fields → Li
 keptLine l a s f =
     cond (eqb (f .kind) 33)
     (needRow a (s .lines) (l .values) (l .owners) (l .firsts) (l .counts) (l .needies) (l .targets) (l .lows) (l .highs) (l .modules) (f .first))
-    (cond (eqb (f .kind) 34) (resolvedRow a (s .lines) (f .first) (f .second) (f .owner .0)) a)
+    (cond (eqb (f .kind) 34) (resolvedRow a (s .lines) (l .modules) (f .first) (f .second) (f .owner .0)) a)
 
 -- THE READING as the code keeps it: its state, and the area with a row for each line so far
 pub record Held : Type 0 where

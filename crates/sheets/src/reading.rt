@@ -68,7 +68,7 @@ fn keep_line<'a>(
     }
     if f.kind == RESOLVED {
         let m = f.owner;
-        resolved_row(work, s.lines, f.first, f.second, m);
+        resolved_row(work, s.lines, modules, f.first, f.second, m);
     }
 }
 

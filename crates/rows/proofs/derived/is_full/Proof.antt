@@ -16,8 +16,8 @@ cast-half-at c = search needs
 half-at-requires : tie.Need-half-at-requires
 half-at-requires c κs = search needs
 
-marked-requires : tie.Need-marked-requires
-marked-requires c κs = search needs
+all-bits-requires : tie.Need-all-bits-requires
+all-bits-requires c κs = search needs
 
 word-at-requires-2 : tie.Need-word-at-requires-2
 word-at-requires-2 c κs = search needs
@@ -29,8 +29,8 @@ returns c =
     let bit = count .before .before in
     let word = bit .before in
     let given = word .before .before .before .args in
-    full-told (given .work .now) (given .row) (given .counts .now) (given .m .0) (word .word-at .ensures) (bit .has-bit .ensures) (count .half-at .ensures)
-    (all .marked .ensures) (c .word-at2 .ensures)
+    full-told (given .work .now) (given .row) (given .absent) (given .counts .now) (given .m .0) (word .word-at .ensures) (bit .has-bit .ensures)
+    (count .half-at .ensures) (all .all-bits .ensures) (c .word-at2 .ensures)
 
 pub is-full-spec : {M : Type 1} → statement M
 is-full-spec =
@@ -40,6 +40,6 @@ is-full-spec =
     has-bit-requires
     cast-half-at
     half-at-requires
-    marked-requires
+    all-bits-requires
     word-at-requires-2
     returns)

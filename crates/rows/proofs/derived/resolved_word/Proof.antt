@@ -7,13 +7,13 @@ use Rattle.rows.proofs.Told.{absent-told}
 use Rattle.rows.proofs.derived.resolved_word.Statement.{statement}
 use Rattle.rows.proofs.derived.resolved_word.Tie as tie
 
-marked-requires : tie.Need-marked-requires
-marked-requires c κs = search needs
+one-bit-requires : tie.Need-one-bit-requires
+one-bit-requires c κs = search needs
 
 returns : tie.Need-returns
 returns c =
     let given = c .before .before .args in
-    absent-told (given .m .0) (given .x) (given .y) (c .before .if1 .taken) (c .marked .ensures)
+    absent-told (given .absent) (given .m .0) (given .x) (given .y) (c .before .if1 .taken) (c .one-bit .ensures)
 
 returns-2 : tie.Need-returns-2
 returns-2 c = sym (cond-false _ _ (ne-eqb _ _ (c .before .before .if1 .left)) ∙ cond-true _ _ (eq-eqb _ _ (c .if2 .taken)))
@@ -22,4 +22,4 @@ returns-3 : tie.Need-returns-3
 returns-3 c = sym (cond-false _ _ (ne-eqb _ _ (c .before .before .if1 .left)) ∙ cond-false _ _ (ne-eqb _ _ (c .if2 .left)))
 
 pub resolved-word-spec : {M : Type 1} → statement M
-resolved-word-spec = tie.close (tie.spec marked-requires returns returns-2 returns-3)
+resolved-word-spec = tie.close (tie.spec one-bit-requires returns returns-2 returns-3)

@@ -6,6 +6,7 @@ use Rattle.store.specs.declared.lookup.Span.{Span}
 use Rattle.rows.specs.Bits.{inWord}
 use Rattle.rows.specs.Needed.{needBit}
 use Rattle.rows.proofs.Building.{Built, digit-small, in-word-small, none-built, has-room, bit-built, all-built}
+use Rattle.rows.proofs.Told.{word-unnamed, bit-named}
 use Rattle.rows.proofs.needed.need_versions.Statement.{statement}
 use Rattle.rows.proofs.needed.need_versions.Tie as tie
 
@@ -18,6 +19,16 @@ abbrev μ-loop : tie.MeasureT-loop
 versions-of-requires : tie.Need-versions-of-requires Inv-loop μ-loop
 versions-of-requires c κs = search needs
 
+all-bits-requires : tie.Need-all-bits-requires Inv-loop μ-loop
+all-bits-requires c κs = search needs
+
+returns : tie.Need-returns Inv-loop μ-loop
+returns c =
+    let told = c .before .before .before .before .before .before .before .before in
+    let given = told .before .before .before .before .args in
+    word-unnamed (given .values .now) (given .need) (given .m .0) (c .before .if1 .taken) (given .firsts .now) (given .counts .now)
+    (ap (λ (s : Span). s .count) (told .versions-of .ensures)) (c .all-bits .ensures)
+
 in-word-requires : tie.Need-in-word-requires Inv-loop μ-loop
 in-word-requires c κs = search needs
 
@@ -27,17 +38,17 @@ loop-holds c = none-built _ _ _ (c .in-word .ensures)
 sub-k : tie.Need-sub-k Inv-loop μ-loop
 sub-k c = search needs
 
-cast-need-bit : tie.Need-cast-need-bit Inv-loop μ-loop
-cast-need-bit c = search needs
+cast-named-bit : tie.Need-cast-named-bit Inv-loop μ-loop
+cast-named-bit c = search needs
 
-cast-need-bit-2 : tie.Need-cast-need-bit-2 Inv-loop μ-loop
-cast-need-bit-2 c = search needs
+cast-named-bit-2 : tie.Need-cast-named-bit-2 Inv-loop μ-loop
+cast-named-bit-2 c = search needs
 
-add-need-bit : tie.Need-add-need-bit Inv-loop μ-loop
-add-need-bit c = search needs
+add-named-bit : tie.Need-add-named-bit Inv-loop μ-loop
+add-named-bit c = search needs
 
-need-bit-requires : tie.Need-need-bit-requires Inv-loop μ-loop
-need-bit-requires c κs = search needs
+named-bit-requires : tie.Need-named-bit-requires Inv-loop μ-loop
+named-bit-requires c κs = search needs
 
 mul-word : tie.Need-mul-word Inv-loop μ-loop
 mul-word c =
@@ -52,7 +63,7 @@ add-word : tie.Need-add-word Inv-loop μ-loop
 add-word c =
     let turn = c .before .before .before in
     let room = has-room _ _ _ (turn .before .loop .inv) (turn .loop-test .taken) (in-word-small _) in
-    let bit = digit-small (c .before .need-bit .result) in
+    let bit = digit-small (c .before .named-bit .result) in
     omega arith
 
 loop-less : tie.Need-loop-less Inv-loop μ-loop
@@ -61,11 +72,15 @@ loop-less c = search needs
 loop-again : tie.Need-loop-again Inv-loop μ-loop
 loop-again c =
     let turn = c .before .before .before in
-    bit-built _ _ _ (turn .before .loop .inv) (turn .loop-test .taken) refl (c .before .need-bit .ensures) (c .digit-of .ensures)
+    let left = turn .before .before .before in
+    let given = left .before .before .before .before .before .before .before .before .before .before .before .args in
+    bit-built _ _ _ (turn .before .loop .inv) (turn .loop-test .taken) refl
+    (bit-named (given .values .now) (given .need) (given .m .0) (left .if1 .left) _ (c .before .named-bit .ensures)) (c .digit-of .ensures)
 
-returns : tie.Need-returns Inv-loop μ-loop
-returns c =
-    let told = c .before .before .before .versions-of .ensures in
+returns-2 : tie.Need-returns-2 Inv-loop μ-loop
+returns-2 c =
+    let left = c .before .before .before in
+    let told = left .before .before .before .before .before .before .before .versions-of .ensures in
     all-built _ _ _ (c .before .loop .inv) (c .loop-test .left) (ap (λ (s : Span). s .first) told) (ap (λ (s : Span). inWord (s .count)) told)
 
 pub need-versions-spec : {M : Type 1} → statement M
@@ -75,16 +90,18 @@ need-versions-spec =
     Inv-loop
     μ-loop
     versions-of-requires
+    all-bits-requires
+    returns
     in-word-requires
     loop-holds
     sub-k
-    cast-need-bit
-    cast-need-bit-2
-    add-need-bit
-    need-bit-requires
+    cast-named-bit
+    cast-named-bit-2
+    add-named-bit
+    named-bit-requires
     mul-word
     digit-of-requires
     add-word
     loop-less
     loop-again
-    returns)
+    returns-2)
