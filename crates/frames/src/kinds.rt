@@ -7,6 +7,25 @@ pub const CATALOGUE: u8 = 1;
 
 pub const SHEET: u8 = 2;
 
+// Kinds of a catalogue's frames.
+pub const HEAD: u8 = 0x01;
+
+pub const VERSION: u8 = 0x02;
+
+pub const NEED: u8 = 0x03;
+
+pub const END: u8 = 0x04;
+
+pub const CARET: u8 = 0x05;
+// Kinds of a sheet's frames.
+pub const SHEET_HEAD: u8 = 0x20;
+
+pub const NEED_LINE: u8 = 0x21;
+
+pub const RESOLVED: u8 = 0x22;
+
+pub const SHEET_END: u8 = 0x24;
+
 // A kind of frame: its text, its number, the digits of its line, and where in the frame its first, second and third field stand (0: it has none).
 pub struct Kind {
     pub text: u8,
@@ -23,7 +42,7 @@ const KINDS: [Kind; ROWS] = [
     // head: M
     Kind {
         text: CATALOGUE,
-        kind: 0x01,
+        kind: HEAD,
         digits: 6,
         first: 1,
         second: 0,
@@ -32,7 +51,7 @@ const KINDS: [Kind; ROWS] = [
     // version: module, version
     Kind {
         text: CATALOGUE,
-        kind: 0x02,
+        kind: VERSION,
         digits: 12,
         first: 1,
         second: 2,
@@ -41,7 +60,7 @@ const KINDS: [Kind; ROWS] = [
     // need: module, low, upper end
     Kind {
         text: CATALOGUE,
-        kind: 0x03,
+        kind: NEED,
         digits: 18,
         first: 1,
         second: 2,
@@ -50,7 +69,7 @@ const KINDS: [Kind; ROWS] = [
     // caret need: module, low
     Kind {
         text: CATALOGUE,
-        kind: 0x05,
+        kind: CARET,
         digits: 12,
         first: 1,
         second: 2,
@@ -59,7 +78,7 @@ const KINDS: [Kind; ROWS] = [
     // end
     Kind {
         text: CATALOGUE,
-        kind: 0x04,
+        kind: END,
         digits: 4,
         first: 0,
         second: 0,
@@ -68,7 +87,7 @@ const KINDS: [Kind; ROWS] = [
     // head: line count
     Kind {
         text: SHEET,
-        kind: 0x20,
+        kind: SHEET_HEAD,
         digits: 8,
         first: 1,
         second: 0,
@@ -77,7 +96,7 @@ const KINDS: [Kind; ROWS] = [
     // need line: need number
     Kind {
         text: SHEET,
-        kind: 0x21,
+        kind: NEED_LINE,
         digits: 8,
         first: 1,
         second: 0,
@@ -86,7 +105,7 @@ const KINDS: [Kind; ROWS] = [
     // resolved line: first line, second line, module
     Kind {
         text: SHEET,
-        kind: 0x22,
+        kind: RESOLVED,
         digits: 14,
         first: 1,
         second: 3,
@@ -95,7 +114,7 @@ const KINDS: [Kind; ROWS] = [
     // end
     Kind {
         text: SHEET,
-        kind: 0x24,
+        kind: SHEET_END,
         digits: 4,
         first: 0,
         second: 0,

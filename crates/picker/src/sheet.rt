@@ -5,12 +5,9 @@ ghost use lib.ListN.{length, take};
 ghost use lib.Seq.{sets};
 ghost use Rattle.picker.specs.Written.{sheetIn};
 use crate::area;
+use frames::kinds::SHEET_END;
+use frames::kinds::SHEET_HEAD;
 use frames::written;
-
-// Kinds of a sheet's first and last frame.
-const HEAD: u8 = 0x20;
-
-const END: u8 = 0x24;
 
 // Writes a sheet's text at the start of an area, with `count` lines whose text ends at `end`; says how long it is. Every other byte of the area stays.
 pub fn write_sheet(out: &mut [u8], lines: &[u8], count: u16, end: usize) -> usize
@@ -19,9 +16,9 @@ pub fn write_sheet(out: &mut [u8], lines: &[u8], count: u16, end: usize) -> usiz
     ensures size { λ r. ⌜ r ≡ length (sheetIn (take end (now (lines .entry))) count) ⌝ }
     ensures area { λ r. ⌜ now (out .exit) ≡ sets (now (out .entry)) 0 (sheetIn (take end (now (lines .entry))) count) ⌝ }
 {
-    let head: [u8; 3] = [HEAD, (count / 256 % 256) as u8, (count % 256) as u8];
+    let head: [u8; 3] = [SHEET_HEAD, (count / 256 % 256) as u8, (count % 256) as u8];
     let start = written::write_frame(out, 0, &head);
     let stop = area::copy(out, start, lines, end);
-    let last: [u8; 1] = [END];
+    let last: [u8; 1] = [SHEET_END];
     written::write_frame(out, stop, &last)
 }

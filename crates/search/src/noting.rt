@@ -4,6 +4,8 @@ ghost use Prim.Native.Nat.{_-_, _≤_};
 ghost use lib.ListN.{length};
 ghost use Rattle.rules.specs.Sheet.{cites, resolves};
 ghost use Rattle.search.specs.Noting.{sheet, noteIn, entryBytes};
+use frames::kinds::NEED_LINE;
+use frames::kinds::RESOLVED;
 use frames::numbers::ModuleNo;
 use frames::written;
 
@@ -16,10 +18,6 @@ pub struct Noted {
 
 // Bytes of the longest line.
 const LINE: usize = 15;
-// Kinds of a sheet's lines.
-const NEED_LINE: u8 = 0x21;
-
-const RESOLVED: u8 = 0x22;
 
 // What is left of a length behind a place.
 fn left_behind(size: usize, at: usize) -> usize

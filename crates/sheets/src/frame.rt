@@ -6,18 +6,13 @@ use frames::fields::LONGEST;
 use frames::fields::byte_in;
 use frames::fields::pair_in;
 use frames::kinds::Kind;
+use frames::kinds::NEED_LINE;
+use frames::kinds::RESOLVED;
+use frames::kinds::SHEET_END;
+use frames::kinds::SHEET_HEAD;
 use frames::numbers::ModuleNo;
 use store::frame::checks;
 use store::tables::one_less;
-
-// Kinds of frames.
-pub const HEAD: u8 = 0x20;
-
-pub const NEED_LINE: u8 = 0x21;
-
-pub const RESOLVED: u8 = 0x22;
-
-pub const END: u8 = 0x24;
 
 // Lines of a sheet.
 pub const LINES: u16 = 480;
@@ -73,7 +68,7 @@ fn end_fault(s: State) -> u8
 pub fn frame_fault(s: State, modules: u16, needs: u16, f: Fields) -> u8
     ensures { λ r. ⌜ r ≡ frameFault s modules needs f ⌝ }
 {
-    if f.kind == HEAD {
+    if f.kind == SHEET_HEAD {
         return head_fault(s, f);
     }
     if f.kind == NEED_LINE {
@@ -89,14 +84,14 @@ pub fn after(s: State, f: Fields) -> State
     requires { ⌜ s .lines < 65535 ⌝ }
     ensures { λ r. ⌜ r ≡ after s f ⌝ }
 {
-    if f.kind == HEAD {
+    if f.kind == SHEET_HEAD {
         return State {
             stands: 1,
             due: f.first,
             lines: 0,
         };
     }
-    if f.kind == END {
+    if f.kind == SHEET_END {
         return State {
             stands: 2,
             due: 0,

@@ -12,21 +12,14 @@ use crate::limits::OF_VERSION;
 use frames::fields::LONGEST;
 use frames::fields::byte_in;
 use frames::fields::version_in;
+use frames::kinds::CARET;
+use frames::kinds::HEAD;
 use frames::kinds::Kind;
+use frames::kinds::NEED;
+use frames::kinds::VERSION;
 use frames::numbers::ModuleNo;
 use frames::numbers::Place;
 use frames::numbers::Version;
-
-// Kinds of frames.
-pub const HEAD: u8 = 0x01;
-
-pub const VERSION: u8 = 0x02;
-
-pub const NEED: u8 = 0x03;
-
-pub const END: u8 = 0x04;
-
-pub const CARET: u8 = 0x05;
 
 // The fields of a frame of any kind: a module (of a head, how many), a version or the low end of a range with whether it has a byte 255, and the
 // upper end.
