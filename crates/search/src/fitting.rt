@@ -72,10 +72,12 @@ pub fn cite_bar<'a>(
     m: ModuleNo,
     p: Place,
 ) -> Noted
-    ensures told { λ r. ⌜ r ≡ noteIn allowance (entryBytes (cites (overIn (scanIn (now (values .entry)) (now (starts .entry)) (now (marks .entry)) (now (targets .entry)) (now (lows .entry))
-        (now (highs .entry)) (now (chosen .entry)) (m .0) (suc (p .0))) 0 modules))) (sheet (now (work .entry)) noted) .noted ⌝ }
-    ensures area { λ r. ⌜ now (work .exit) ≡ noteIn allowance (entryBytes (cites (overIn (scanIn (now (values .entry)) (now (starts .entry)) (now (marks .entry)) (now (targets .entry)) (now (lows .entry))
-        (now (highs .entry)) (now (chosen .entry)) (m .0) (suc (p .0))) 0 modules))) (sheet (now (work .entry)) noted) .area ⌝ }
+    ensures told { λ r. ⌜ r ≡ noteIn allowance (entryBytes (cites (overIn (scanIn (now (values .entry)) (now (starts .entry)) (now (marks .entry))
+        (now (targets .entry)) (now (lows .entry)) (now (highs .entry)) (now (chosen .entry)) (m .0) (suc (p .0))) 0 modules)))
+        (sheet (now (work .entry)) noted) .noted ⌝ }
+    ensures area { λ r. ⌜ now (work .exit) ≡ noteIn allowance (entryBytes (cites (overIn (scanIn (now (values .entry)) (now (starts .entry))
+        (now (marks .entry)) (now (targets .entry)) (now (lows .entry)) (now (highs .entry)) (now (chosen .entry)) (m .0) (suc (p .0))) 0 modules)))
+        (sheet (now (work .entry)) noted) .area ⌝ }
 {
     if noted.over {
         return noted;

@@ -2,6 +2,7 @@
 // left to it.
 ghost use mathlib.Core.Path.{_≡_};
 ghost use Prim.Native.Nat.{min, max};
+ghost use Rattle.store.specs.Frame.{version};
 ghost use Rattle.search.specs.Wanted.{noneWanted, narrowed, betterIn, foldIn, wantedAt, wantedIn};
 use crate::scan::NONE;
 use frames::numbers::ModuleNo;
@@ -38,36 +39,36 @@ pub fn nothing() -> Wanted
 }
 
 // The newer of two versions.
-fn newer(a: u32, b: u32) -> u32
-    ensures { λ r. ⌜ r ≡ max a b ⌝ }
+fn newer(a: Version, b: Version) -> Version
+    ensures { λ r. ⌜ r ≡ version (max (a .0) (b .0)) ⌝ }
 {
-    if a < b {
+    if a.0 < b.0 {
         return b;
     }
     a
 }
 
 // The older of two versions.
-fn older(a: u32, b: u32) -> u32
-    ensures { λ r. ⌜ r ≡ min a b ⌝ }
+fn older(a: Version, b: Version) -> Version
+    ensures { λ r. ⌜ r ≡ version (min (a .0) (b .0)) ⌝ }
 {
-    if a < b {
+    if a.0 < b.0 {
         return a;
     }
     b
 }
 
 // The same module, with what a need's range leaves of the range that it had.
-fn narrow(w: Wanted, low: u32, high: u32) -> Wanted
-    ensures { λ r. ⌜ r ≡ narrowed low high w ⌝ }
+fn narrow(w: Wanted, low: Version, high: Version) -> Wanted
+    ensures { λ r. ⌜ r ≡ narrowed (low .0) (high .0) w ⌝ }
 {
     let had_low = w.low;
     let had_high = w.high;
     let owner = w.owner;
     Wanted {
         need: w.need,
-        low: Version(newer(low, had_low.0)),
-        high: Version(older(high, had_high.0)),
+        low: newer(low, had_low),
+        high: older(high, had_high),
         owner: owner,
     }
 }
@@ -90,8 +91,8 @@ pub fn better<'a>(
     if lowest.0 < target {
         return w;
     }
-    let low = access::word_at(lows, at);
-    let high = access::word_at(highs, at);
+    let low = Version(access::word_at(lows, at));
+    let high = Version(access::word_at(highs, at));
     if target == lowest.0 {
         return narrow(w, low, high);
     }
@@ -99,8 +100,8 @@ pub fn better<'a>(
     if state == 0 {
         return Wanted {
             need: k,
-            low: Version(low),
-            high: Version(high),
+            low: low,
+            high: high,
             owner: ModuleNo(target),
         };
     }

@@ -2,13 +2,15 @@
 use mathlib.Core.Path.{_≡_}
 use Prim.Native.Nat.{ℕ, min, max}
 use borrow.Author.Needs.{needs}
+use Rattle.frames.specs.declared.numbers.Version.{Version}
+use Rattle.store.specs.Frame.{version}
 use Rattle.search.specs.Wanted.{wantedBy, narrowed}
 use Rattle.search.specs.declared.wanted.Wanted.{Wanted}
 use Rattle.search.proofs.wanted.narrow.Statement.{statement}
 use Rattle.search.proofs.wanted.narrow.Tie as tie
 
-ends-told : (w : Wanted) (low high : ℕ) {a b : ℕ} → a ≡ max low (w .low .0) → b ≡ min high (w .high .0) →
-    wantedBy (w .owner .0) (w .need) a b ≡ narrowed low high w
+ends-told : (w : Wanted) (low high : ℕ) {a b : Version} → a ≡ version (max low (w .low .0)) → b ≡ version (min high (w .high .0)) →
+    wantedBy (w .owner .0) (w .need) (a .0) (b .0) ≡ narrowed low high w
 ends-told w low high p q = rw (p, q)
 
 newer-requires : tie.Need-newer-requires
@@ -20,7 +22,7 @@ older-requires c κs = search needs
 returns : tie.Need-returns
 returns c =
     let at-entry = c .before .before .before .before .before in
-    ends-told (at-entry .args .w) (at-entry .args .low) (at-entry .args .high) (c .before .newer .ensures) (c .older .ensures)
+    ends-told (at-entry .args .w) (at-entry .args .low .0) (at-entry .args .high .0) (c .before .newer .ensures) (c .older .ensures)
 
 pub narrow-spec : {M : Type 1} → statement M
 narrow-spec = tie.close (tie.spec newer-requires older-requires returns)
