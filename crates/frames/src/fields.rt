@@ -7,7 +7,7 @@ use crate::numbers::Version;
 // The bytes of the longest frame.
 pub const LONGEST: usize = 9;
 
-// Puts a byte more into the frame; a byte past the longest frame is dropped.
+// Puts a byte into a frame that is read, or into any other area; a byte past its end is dropped.
 pub fn put(frame: &mut [u8], at: usize, byte: u8)
     ensures { λ r. ⌜ now (frame .exit) ≡ set (now (frame .entry)) at byte ⌝ }
 {

@@ -1,8 +1,9 @@
 // A lent byte area as rows of words: 0 is read past the end, and nothing is written there.
 ghost use mathlib.Core.Path.{_≡_};
-ghost use lib.ListN.{getD, set};
+ghost use lib.ListN.{getD};
 ghost use Rattle.rows.specs.Area.{wordAt, withWord, absentWord};
 use crate::bits;
+use frames::fields::put;
 use store::limits::MODULES;
 
 // Bytes of a word.
@@ -24,14 +25,6 @@ fn byte_at(area: &[u8], i: usize) -> u8
         return area[i];
     }
     0
-}
-
-fn put_byte(area: &mut [u8], i: usize, x: u8)
-    ensures { λ r. ⌜ now (area .exit) ≡ set (now (area .entry)) i x ⌝ }
-{
-    if i < area.len() {
-        area[i] = x;
-    }
 }
 
 // A word of a row. One that lies whole in the area, as every word of a row that was written does, is read without asking byte by byte.
@@ -57,8 +50,8 @@ pub fn put_word(area: &mut [u8], row: u16, word: u16, x: u32)
     ensures { λ r. ⌜ now (area .exit) ≡ withWord (now (area .entry)) row word x ⌝ }
 {
     let at = ROW_BYTES * row as usize + WORD_BYTES * word as usize;
-    put_byte(area, at, (x / 16777216 % 256) as u8);
-    put_byte(area, at + 1, (x / 65536 % 256) as u8);
-    put_byte(area, at + 2, (x / 256 % 256) as u8);
-    put_byte(area, at + 3, (x % 256) as u8);
+    put(area, at, (x / 16777216 % 256) as u8);
+    put(area, at + 1, (x / 65536 % 256) as u8);
+    put(area, at + 2, (x / 256 % 256) as u8);
+    put(area, at + 3, (x % 256) as u8);
 }

@@ -13,38 +13,38 @@ mul-at-2 c = search needs
 add-at : tie.Need-add-at
 add-at c = search needs
 
-cast-put-byte : tie.Need-cast-put-byte
-cast-put-byte c = search needs
+cast-put : tie.Need-cast-put
+cast-put c = search needs
 
-put-byte-requires : tie.Need-put-byte-requires
-put-byte-requires c κs = search needs
+put-requires : tie.Need-put-requires
+put-requires c κs = search needs
 
-add-put-byte : tie.Need-add-put-byte
-add-put-byte c = search needs
+add-put : tie.Need-add-put
+add-put c = search needs
 
-cast-put-byte-2 : tie.Need-cast-put-byte-2
-cast-put-byte-2 c = search needs
+cast-put-2 : tie.Need-cast-put-2
+cast-put-2 c = search needs
 
-put-byte-requires-2 : tie.Need-put-byte-requires-2
-put-byte-requires-2 c κs = search needs
+put-requires-2 : tie.Need-put-requires-2
+put-requires-2 c κs = search needs
 
-add-put-byte-2 : tie.Need-add-put-byte-2
-add-put-byte-2 c = search needs
+add-put-2 : tie.Need-add-put-2
+add-put-2 c = search needs
 
-cast-put-byte-3 : tie.Need-cast-put-byte-3
-cast-put-byte-3 c = search needs
+cast-put-3 : tie.Need-cast-put-3
+cast-put-3 c = search needs
 
-put-byte-requires-3 : tie.Need-put-byte-requires-3
-put-byte-requires-3 c κs = search needs
+put-requires-3 : tie.Need-put-requires-3
+put-requires-3 c κs = search needs
 
-add-put-byte-3 : tie.Need-add-put-byte-3
-add-put-byte-3 c = search needs
+add-put-3 : tie.Need-add-put-3
+add-put-3 c = search needs
 
-cast-put-byte-4 : tie.Need-cast-put-byte-4
-cast-put-byte-4 c = search needs
+cast-put-4 : tie.Need-cast-put-4
+cast-put-4 c = search needs
 
-put-byte-requires-4 : tie.Need-put-byte-requires-4
-put-byte-requires-4 c κs = search needs
+put-requires-4 : tie.Need-put-requires-4
+put-requires-4 c κs = search needs
 
 same-length : tie.Need-same-length
 same-length c = search needs
@@ -60,16 +60,16 @@ put-word-spec =
     mul-at
     mul-at-2
     add-at
-    cast-put-byte
-    put-byte-requires
-    add-put-byte
-    cast-put-byte-2
-    put-byte-requires-2
-    add-put-byte-2
-    cast-put-byte-3
-    put-byte-requires-3
-    add-put-byte-3
-    cast-put-byte-4
-    put-byte-requires-4
+    cast-put
+    put-requires
+    add-put
+    cast-put-2
+    put-requires-2
+    add-put-2
+    cast-put-3
+    put-requires-3
+    add-put-3
+    cast-put-4
+    put-requires-4
     same-length
     returns)
