@@ -1,22 +1,31 @@
--- The line that an answer tells is at most 32,769, one past the bytes of the longest text (`pick-line`, `check-line`), so two bytes hold it. Assumes nothing.
+-- The line that an answer tells is at most 32,769, one past the bytes of the longest text (`pick-line`, `check-line`), and the length at most 7,214, the
+-- bytes of the longest sheet (`pick-length`), so two bytes hold each. Assumes nothing.
 use mathlib.Core.Path.{_≡_, refl, ap}
-use mathlib.Core.Bool.{Bool, true, false, cond}
-use mathlib.Core.List.{List, [], _∷_}
+use mathlib.Core.Logic.{_⊎_, inl, inr}
+use mathlib.Core.Bool.{Bool, true, false, _&&_, cond}
+use mathlib.Core.List.{List, [], _∷_, flatMap}
 use mathlib.Core.Option.{Option, none, some}
 use Prim.Native.Nat.{ℕ, suc, _+_, _-_, _≤_}
 use native.Mathlib.Omega.{arith}
 use lib.Dec.{ltb, leb, eqb}
 use lib.ListN.{length}
-use borrow.Author.Tests.{ltb-false}
+use borrow.Author.Tests.{leb-true, ltb-false, eqb-true}
+use Rattle.rules.specs.Lists.{isIn}
 use Rattle.rules.specs.Lines.{fault, Line, line, withByte, lineFeed, linesOf}
 use Rattle.rules.specs.Frames.{catalogues, sheets, frameOf, Reader, Read, bad, got, lineFault, readFrom, readText, faultOf}
-use Rattle.rules.specs.Catalogue.{Catalogue, reading, noCatalogue, limits, catalogueReader, textFault, catalogueOf}
+use Rattle.rules.specs.Catalogue.{Catalogue, Carried, reading, noCatalogue, limits, catalogueReader, textFault, catalogueOf}
 use Rattle.rules.specs.Selection.{Selection}
 use Rattle.rules.specs.Search.{best}
-use Rattle.rules.specs.Sheet.{sheetReader, sheetReading, sheetFault}
-use Rattle.picker.specs.Entry.{workLeast, isFine, areasFit, OutcomeOwes, ReadOwes}
-use Rattle.picker.specs.Checking.{checked, checkedBy, PickLine, CheckLine}
+use Rattle.rules.specs.Sheet.{Entry, entryText, sheetText, mostLines, entriesFit, lastLine, refutes, isRefuting, sheetReader, sheetReading, sheetFault}
+use Rattle.rules.proofs.Lists.{and-fst, and-snd}
+use Rattle.rules.proofs.Reading.{limits-carried}
+use Rattle.rules.proofs.SelectionText.{selection-short}
+use Rattle.rules.proofs.Theorems.{reads-well-formed}
+use Rattle.picker.specs.Entry.{sheetLeast, workLeast, isFine, areasFit, SheetOwes, OutcomeOwes, ReadOwes}
+use Rattle.picker.specs.Checking.{checked, checkedBy, PickLine, PickLength, CheckLine}
 use Rattle.picker.specs.declared.Picked.{Picked}
+use Rattle.picker.proofs.Numbers.{text-fine}
+use Rattle.picker.proofs.Sheets.{sheet-length, sheet-is-the-rules, lines-short}
 
 -- A TEXT has no more lines than bytes
 with-byte-few : (c n : ℕ) (ls : List Line) → length ls ≤ n → length (withByte c ls) ≤ suc n
@@ -92,6 +101,47 @@ pick-line t s h w a r u v x owes = by-areas (areasFit s h w a) refl
     by-areas : (b : Bool) → areasFit s h w a ≡ b → r .line ≤ 32769
     by-areas true e = by-text (isFine (textFault limits t)) refl (owes .fit e .0)
     by-areas false e = let told = ap (λ (p : Picked). p .line) (owes .unfit e .0) in omega (arith, told)
+
+-- a refuting sheet's text is no longer than its area
+sheet-short : (c : Catalogue) (es : List Entry) → isRefuting c es ≡ true → length (sheetText es) ≤ sheetLeast
+unfolding isRefuting
+sheet-short c es e =
+    let all : (isIn 1 mostLines (length es) && entriesFit c 0 es && refutes c (lastLine c es)) ≡ true = e in
+    let count : isIn 1 mostLines (length es) ≡ true = search (and-fst, and-snd) in
+    let few : length es ≤ mostLines = leb-true (length es) mostLines (and-snd (leb 1 (length es)) _ count) in
+    let same = ap length (sheet-is-the-rules es (omega arith)) in
+    let long = sheet-length (flatMap entryText es) (length es) in
+    let lines = lines-short es in
+    omega (arith, same, long, lines, few)
+
+pub pick-length : PickLength
+pick-length t s h w a r u v x owes = by-areas (areasFit s h w a) refl
+  where
+    c : Catalogue
+    c = catalogueOf limits t
+
+    by-number : SheetOwes c h a r v → (r .number ≡ 9) ⊎ (r .number ≡ 10) → r .size ≤ sheetLeast
+    by-number owed (inl e) =
+        let written = owed .written e in
+        let short = sheet-short c (written .entries) (written .refutes) in
+        omega (arith, written .size, short)
+    by-number owed (inr e) = let none = owed .unwritten e .0 in omega (arith, none)
+
+    by-outcome : (o : Option Selection) → Carried c → OutcomeOwes c o s h a r u v → r .size ≤ sheetLeast
+    by-outcome none carried owed = by-number (owed .0) (owed .0 .either)
+    by-outcome (some y) carried owed =
+        let told = ap (λ (p : Picked). p .size) (owed .0) in
+        let short = selection-short c y (carried .modules) in
+        omega (arith, told, short)
+
+    by-text : (b : Bool) → isFine (textFault limits t) ≡ b → ReadOwes t s h a r u v → r .size ≤ sheetLeast
+    by-text true e read =
+        by-outcome (best c) (reads-well-formed limits t limits-carried (text-fine t (eqb-true _ 0 e)) .1) (read .read e)
+    by-text false e read = let told = ap (λ (p : Picked). p .size) (read .refused e .0) in omega (arith, told)
+
+    by-areas : (b : Bool) → areasFit s h w a ≡ b → r .size ≤ sheetLeast
+    by-areas true e = by-text (isFine (textFault limits t)) refl (owes .fit e .0)
+    by-areas false e = let told = ap (λ (p : Picked). p .size) (owes .unfit e .0) in omega (arith, told)
 
 pub check-line : CheckLine
 check-line t h w = by-area (leb workLeast (length w)) (isFine (textFault limits t))

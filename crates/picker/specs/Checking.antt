@@ -12,7 +12,7 @@ use Rattle.rules.specs.Frames.{catalogues, sheets}
 use Rattle.rules.specs.Catalogue.{limits, textFault, catalogueOf}
 use Rattle.rules.specs.Sheet.{Entry, isRefuting, sheetFault, sheetText}
 use Rattle.rules.specs.Promises.{SomeValid}
-use Rattle.picker.specs.Entry.{workLeast, zeroed, isFine, areasFit, PickOwes}
+use Rattle.picker.specs.Entry.{sheetLeast, workLeast, zeroed, isFine, areasFit, PickOwes}
 use Rattle.picker.specs.declared.Checked.{Checked}
 use Rattle.picker.specs.declared.Picked.{Picked}
 
@@ -55,3 +55,7 @@ PickLine = (t s h w : List ℕ) (a : ℕ) (r : Picked) (u v x : List ℕ) → Pi
 
 abbrev pub CheckLine : Type 0
 CheckLine = (t h w : List ℕ) → checkOf t h w .line ≤ 32769
+
+-- THE LENGTH that a pick tells is no more than the bytes of the longest sheet, so two bytes hold it too
+abbrev pub PickLength : Type 0
+PickLength = (t s h w : List ℕ) (a : ℕ) (r : Picked) (u v x : List ℕ) → PickOwes t s h w a r u v x → r .size ≤ sheetLeast

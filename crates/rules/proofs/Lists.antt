@@ -6,7 +6,7 @@ use mathlib.Core.Bool.{Bool, true, false, _&&_, _||_, cond, true≢false, false�
 use mathlib.Core.List.{List, [], _∷_, _++_, flatMap, List·Memᴰ as Mem, List·Memᴰ·head as here, List·Memᴰ·tail as there, List·Memᴰ·not-nil as not-nil}
 use mathlib.Core.List.{Memᴰ·append-left, Memᴰ·append-right, List·Memᴰ·append-cases}
 use mathlib.Core.Option.{none, some, Option·none-ne-some, Option·some-injective}
-use Prim.Native.Nat.{ℕ, zero, suc, _+_, _≤_, _<_}
+use Prim.Native.Nat.{ℕ, zero, suc, _+_, _*_, _≤_, _<_}
 use native.Mathlib.Omega.{arith}
 use native.Mathlib.Nat.{not-suc-le-zero, not-le-of-lt}
 use lib.Dec.{ltb, eqb}
@@ -358,6 +358,25 @@ module _ {A : Type 0} (d : A) (xs : List A) (x : A) where
 
       next : i < length xs → R (getD (longer xs x) i d) x
       next m = rw (same m) (new i m)
+
+-- LENGTHS: what is kept of a list is no longer than the list
+pub kept-length : (f : ℕ → Bool) (xs : List ℕ) → length (keep f xs) ≤ length xs
+unfolding keep
+kept-length f [] = omega arith
+kept-length f (x ∷ xs) = go (f x) (kept-length f xs)
+  where
+    go : (b : Bool) → length (keep f xs) ≤ length xs → length (cond b (x ∷ keep f xs) (keep f xs)) ≤ suc (length xs)
+    go true l = omega arith
+    go false l = omega arith
+
+-- parts that are alike long, side by side
+pub flat-length : (f : ℕ → List ℕ) (n : ℕ) → ((x : ℕ) → length (f x) ≡ n) → (xs : List ℕ) → length (flatMap f xs) ≡ n * length xs
+unfolding flatMap
+flat-length f n e [] = omega arith
+flat-length f n e (x ∷ xs) =
+    let one = e x in
+    let rest = flat-length f n e xs in
+    rw (length-append (f x) (flatMap f xs)) (omega arith)
 
 -- numbers from `i` up are as many as asked for
 pub length-upFrom : (i n : ℕ) → length (upFrom i n) ≡ n

@@ -1,16 +1,16 @@
--- The text of a valid selection tells the selection: a version's frame names its module and its value, and a module has no two versions of one
--- value. Assumes nothing.
+-- The text of a valid selection tells the selection (`text-tells`): a version's frame names its module and its value, and a module has no two versions of
+-- one value. No selection's text is longer than its area (`selection-short`). Assumes nothing.
 use mathlib.Core.Path.{_≡_, refl, sym, _∙_, ap}
 use mathlib.Core.Logic.{⊎-elim}
 use mathlib.Core.Bool.{true}
 use mathlib.Core.List.{List, [], _∷_, _++_, flatMap, append-cancel-right, List·Memᴰ as Mem, List·Memᴰ·head as here, List·Memᴰ·tail as there}
 use mathlib.Core.List.{List·Memᴰ·eq-of-singleton}
-use Prim.Native.Nat.{ℕ, zero, suc, _+_, _*_, _-_, _/_, _%_, _<_}
+use Prim.Native.Nat.{ℕ, zero, suc, _+_, _*_, _-_, _/_, _%_, _≤_, _<_}
 use native.Mathlib.Omega.{arith}
 use native.Mathlib.Nat.{not-suc-le-zero}
 use lib.Dec.{ltb, eqb}
 use borrow.Author.Tests.{ltb-true, lt-ltb}
-use lib.ListN.{length, drop}
+use lib.ListN.{length, drop, length-append}
 use lib.Seq.{drop-at, ext-getD}
 use Rattle.rules.specs.Lists.{below}
 use Rattle.rules.specs.Lines.{linesOf}
@@ -19,6 +19,7 @@ use Rattle.rules.specs.Catalogue.{Catalogue, Version, versionAtPlace, is
 use Rattle.rules.specs.Selection.{Selection, chosenAt, settled, selectedLine, selectionText}
 use Rattle.rules.specs.Promises.{TextTells}
 use Rattle.rules.proofs.Lists.{and-snd, or-cases, mem-keep, keep-mem, mem-flatMap, flatMap-mem, mem-below, below-mem}
+use Rattle.rules.proofs.Lists.{kept-length, flat-length, length-upFrom}
 use Rattle.rules.proofs.Selections.{of-parts, Valid, valid-parts}
 use Rattle.rules.proofs.Written.{framesOf, frames-cons, frame-length}
 
@@ -152,3 +153,18 @@ text-tells c s o w h p q e = ext-getD 0 s o (ours .size ∙ sym (theirs .size)) 
     same m l =
         let known : m < c .modules = rw (ours .size) at l in
         same-state (chosenAt s m) (chosenAt o m) (choice-told c w h s o ours theirs e m known) (choice-told c w h o s theirs ours (sym e) m known)
+
+-- HOW LONG a selection's text is: at most 428 bytes, with a line for each of 32 modules
+pub selection-short : (c : Catalogue) (s : Selection) → c .modules ≤ 32 → length (selectionText c s) ≤ 428
+unfolding selectionText
+selection-short c s few =
+    let head : length first ≡ 7 = frame-length _ in
+    let lines = flat-length (selectedLine c s) 13 (λ m. frame-length _) (settled c s) in
+    let last : length (frameText (20 ∷ [])) ≡ 5 = frame-length _ in
+    let kept = kept-length (λ (m : ℕ). ltb 0 (chosenAt s m)) (below (c .modules)) in
+    let count = length-upFrom 0 (c .modules) in
+    rw (length-append (first ++ flatMap (selectedLine c s) (settled c s)) (frameText (20 ∷ [])), length-append first (flatMap (selectedLine c s) (settled c s)))
+    (omega arith)
+  where
+    first : List ℕ
+    first = frameText (17 ∷ length (settled c s) ∷ [])

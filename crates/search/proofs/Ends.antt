@@ -7,19 +7,18 @@ use mathlib.Core.List.{List, [], _∷_, _++_, append-assoc, append-nil, List·Me
 use mathlib.Core.Option.{Option, none, some, Option·getD}
 use Prim.Native.Nat.{ℕ, zero, suc, _+_, _-_, _≤_, _<_}
 use native.Mathlib.Omega.{arith}
-use lib.Dec.{eqb}
-use lib.ListN.{length, getD, set, length-append}
+use lib.ListN.{length, set, length-append}
 use lib.Seq.{getD-take, set-set, set-getD}
 use borrow.Author.Tests.{eq-eqb, ne-eqb}
 use Rattle.rules.specs.Lists.{downFrom}
 use Rattle.rules.specs.Catalogue.{Catalogue, isOf}
 use Rattle.rules.specs.Selection.{Selection, chosenAt, withChoice, nextModules}
 use Rattle.rules.specs.Search.{Searched, barring, trialBy, andThen, tryEach, searchFrom, newestFirst}
-use Rattle.rules.specs.Sheet.{Entry, cites, resolves, asking, trialLines, triesLines, searchLines}
+use Rattle.rules.specs.Sheet.{Entry, cites, resolves, trialLines, triesLines, searchLines}
 use Rattle.rules.proofs.Lists.{true-or-false, cond-true, cond-false, keep-mem}
 use Rattle.rules.proofs.Selections.{next-first}
 use Rattle.rules.proofs.Searches.{next-cases, search-done, search-next}
-use Rattle.rules.proofs.Sheets.{lines-done, lines-next}
+use Rattle.rules.proofs.Sheets.{lines-next}
 use Rattle.search.specs.declared.choices.Choices.{Choices}
 use Rattle.search.specs.declared.wanted.Wanted.{Wanted}
 use Rattle.search.specs.Choosing.{choices}

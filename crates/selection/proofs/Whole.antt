@@ -1,26 +1,15 @@
 -- The whole text: how many lines it has, how long it is, and that its three parts, stored one behind the other, make it. Assumes nothing.
-use mathlib.Core.Path.{_≡_, refl, _∙_, ap}
-use mathlib.Core.Bool.{Bool, true, false, cond}
+use mathlib.Core.Path.{_≡_, _∙_, ap}
 use mathlib.Core.List.{List, [], _∷_, _++_, flatMap}
-use Prim.Native.Nat.{ℕ, suc, _+_, _*_, _%_, _≤_}
+use Prim.Native.Nat.{ℕ, _+_, _*_, _%_, _≤_}
 use native.Mathlib.Omega.{arith}
 use lib.ListN.{length, length-append}
 use lib.Seq.{sets}
-use Rattle.rules.specs.Lists.{keep, below}
-use Rattle.rules.proofs.Lists.{length-upFrom}
+use Rattle.rules.specs.Lists.{below}
+use Rattle.rules.proofs.Lists.{kept-length, flat-length, length-upFrom}
 use Rattle.rules.proofs.Written.{frame-length}
 use Rattle.frames.proofs.Areas.{sets-append}
 use Rattle.selection.specs.Written.{isSettled, settledIn, lineIn, headOf, endLine, textIn}
-
--- what is kept of a list is no longer than the list
-kept-length : (f : ℕ → Bool) (xs : List ℕ) → length (keep f xs) ≤ length xs
-unfolding keep
-kept-length f [] = omega arith
-kept-length f (x ∷ xs) = go (f x) (kept-length f xs)
-  where
-    go : (b : Bool) → length (keep f xs) ≤ length xs → length (cond b (x ∷ keep f xs) (keep f xs)) ≤ suc (length xs)
-    go true l = omega arith
-    go false l = omega arith
 
 -- of n modules no more than n have a version chosen
 pub settled-few : (chosen : List ℕ) (n : ℕ) → length (settledIn chosen n) ≤ n
@@ -30,21 +19,13 @@ module _ (vs ch : List ℕ) where
   pub line-length : (m : ℕ) → length (lineIn vs ch m) ≡ 13
   line-length m = frame-length _
 
-  lines-length : (ms : List ℕ) → length (flatMap (lineIn vs ch) ms) ≡ 13 * length ms
-  unfolding flatMap
-  lines-length [] = refl
-  lines-length (m ∷ ms) =
-      let e = line-length m in
-      let f = lines-length ms in
-      rw (length-append (lineIn vs ch m) (flatMap (lineIn vs ch) ms)) (omega arith)
-
   module _ (n : ℕ) where
     pub text-length : length (textIn vs ch n) ≡ 12 + 13 * length (settledIn ch n)
     unfolding textIn
     text-length =
         let head : length (headOf (length (settledIn ch n))) ≡ 7 = frame-length _ in
         let last : length endLine ≡ 5 = frame-length _ in
-        let ls = lines-length (settledIn ch n) in
+        let ls = flat-length (lineIn vs ch) 13 line-length (settledIn ch n) in
         rw (length-append (headOf (length (settledIn ch n)) ++ flatMap (lineIn vs ch) (settledIn ch n)) endLine)
         (rw (length-append (headOf (length (settledIn ch n))) (flatMap (lineIn vs ch) (settledIn ch n))) (omega arith))
 
@@ -72,4 +53,4 @@ module _ (vs ch : List ℕ) where
         behind-lines : sets (sets old 0 (head ++ lines)) end endLine ≡ sets old 0 (head ++ lines ++ endLine)
         behind-lines =
             sets-append old 0 (head ++ lines) endLine
-            (omega (arith, length-append head lines, head-length, lines-length (settledIn ch n)))
+            (omega (arith, length-append head lines, head-length, flat-length (lineIn vs ch) 13 line-length (settledIn ch n)))
