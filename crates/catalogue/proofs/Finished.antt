@@ -1,10 +1,10 @@
--- A text read whole: the fault told is the rules' (finished-read), and where there is none the tables hold the catalogue that the rules read
--- (read-whole). Assumes nothing.
+-- A text read whole: what is owed of it (lines-owed), also where it is too long (too-long); and where no fault is told the tables hold the catalogue
+-- that the rules read (read-whole). Assumes nothing.
 use mathlib.Core.Path.{_≡_, refl, sym, _∙_, ap, subst}
 use mathlib.Core.List.{List}
 use Prim.Native.Nat.{ℕ, _≤_, _<_}
 use lib.Dec.{eqb}
-use lib.ListN.{length, getD}
+use lib.ListN.{length}
 use borrow.Author.Tests.{le-ltb, lt-ltb}
 use Rattle.rules.specs.Lines.{fault, unless, fine, Line, linesOf}
 use Rattle.rules.specs.Frames.{Reader, Read, got, readFrom, readText, faultOf, readOr}
@@ -19,18 +19,19 @@ use Rattle.store.specs.Frame.{stateOf}
 use Rattle.store.specs.Tables.{Holds}
 use Rattle.store.proofs.Kept.{count-holds, tidy-start}
 use Rattle.catalogue.specs.declared.reading.Lines.{Lines}
-use Rattle.catalogue.specs.Reading.{start, reader, reached, LinesRead, finished, nothingRead, reachedIn, CatalogueRead}
+use Rattle.catalogue.specs.Reading.{start, reader, reached, tablesOf, LinesRead, toldFrom, toldOf, nothingRead, reachedIn, CatalogueRead}
 
-pub finished-read : (t : List ℕ) (r : Lines) → length t ≤ limits .bytes → LinesRead t r → CatalogueRead t (finished r)
-unfolding finished readText
-finished-read t r h l =
+-- a text whose lines are read
+pub lines-owed : (t : List ℕ) (r : Lines) → length t ≤ limits .bytes → LinesRead t r → CatalogueRead t r
+unfolding readText
+lines-owed t r h l =
     record {
       fault-is =
           ap (λ (x : Fault). fault (x .number) (x .line)) same-end ∙
           stopped-fault reader (reached t) (r .number) (r .line) stopped ∙
           ap faultOf (sym text);
       state = l .state ∙ ap stateOf (sym in-time);
-      tables = subst (λ (u : Reading). Holds (r .tables) (u .sofar)) (sym in-time) (l .tables);
+      tables = subst (λ (u : Reading). Holds (tablesOf r) (u .sofar)) (sym in-time) (l .tables);
     }
   where
     in-time : reachedIn t ≡ reached t
@@ -40,10 +41,9 @@ finished-read t r h l =
     stopped = record { reach = refl; outcome = l .outcome }
 
     -- the tests of the state and of the tables are the reader's
-    same-end : endFault (r .number) (r .line) (eqb (r .state .stands) 2) (unless (eqb (getD (r .tables .counts) 0 0) 1) 8) ≡
-        endFault (r .number) (r .line) (reader .isEnded (reached t)) (reader .last (reached t))
+    same-end : toldOf r ≡ endFault (r .number) (r .line) (reader .isEnded (reached t)) (reader .last (reached t))
     same-end =
-        ap (λ (s : State). endFault (r .number) (r .line) (eqb (s .stands) 2) (unless (eqb (getD (r .tables .counts) 0 0) 1) 8)) (l .state) ∙
+        ap (λ (s : State). toldFrom (r .number) (r .line) s (r .counts)) (l .state) ∙
         ap (λ (n : ℕ). endFault (r .number) (r .line) (eqb (reached t .stands) 2) (unless (eqb n 1) 8)) (count-holds (l .tables) 0)
 
     text : readText reader (limits .bytes) start t ≡ readFrom reader 1 start (linesOf t)
@@ -51,7 +51,7 @@ finished-read t r h l =
 
 -- a text that is too long is not read
 pub too-long : (t : List ℕ) → limits .bytes < length t → CatalogueRead t (nothingRead 1)
-unfolding readText
+unfolding readText endFault
 too-long t h =
     record {
       fault-is = rw (lt-ltb (limits .bytes) (length t) h);

@@ -30,24 +30,8 @@ use Rattle.store.specs.Tables.{noTables, keptAt, isVersion, isNeed, Holds, kept
 use Rattle.store.proofs.Faults.{fieldsIn, after-law}
 use Rattle.store.proofs.Kept.{Reads, reads-start, reads-step, count-law, last-law}
 use Rattle.catalogue.specs.declared.reading.Lines.{Lines}
-use Rattle.catalogue.specs.Reading.{start, reader, LinesRead}
+use Rattle.catalogue.specs.Reading.{start, reader, tablesFrom, linesFrom, LinesRead}
 use Rattle.catalogue.proofs.Judged.{fieldsHad, fields-same, frame-judged}
-
--- tables put together from their lists
-abbrev pub tablesFrom : (values owners starts marks firsts counts needies targets lows highs : List ℕ) → Tables
-tablesFrom vs os ss ms fs cs ns ts ls hs =
-    record {
-      values = vs;
-      owners = os;
-      starts = ss;
-      marks = ms;
-      firsts = fs;
-      counts = cs;
-      needies = ns;
-      targets = ts;
-      lows = ls;
-      highs = hs;
-    }
 
 -- what the code gets of the tables, and of a line's bytes: the version last read, and how many versions the line's module has
 abbrev pub lastHad : Tables → State → Last
@@ -75,7 +59,7 @@ at-start text = record { u = start; line = line-begins reader start text; count 
 module _ {text : List ℕ} {at number : ℕ} {s : State} {t : Tables} (h : AtLine text at number s t) where
   -- how far the reading came, if it goes no further
   abbrev pub stopped : (number : ℕ) → Lines
-  stopped n = record { number = n; line = number; state = s; tables = t }
+  stopped n = linesFrom n number s t
 
   -- what is owed then, of the state, the tables and the rest of the text
   lines-read : (n : ℕ) → Stopped reader start text n number (h .u) → LinesRead text (stopped n)

@@ -3,7 +3,7 @@ ghost use mathlib.Core.Path.{_≡_};
 ghost use Prim.Native.Nat.{_≤_};
 ghost use lib.ListN.{length};
 ghost use Rattle.rules.specs.Catalogue.{limits};
-ghost use Rattle.catalogue.specs.Reading.{LinesRead, withFault, finished, nothingRead, CatalogueRead};
+ghost use Rattle.catalogue.specs.Reading.{LinesRead, toldFrom, nothingRead, CatalogueRead};
 use frames::digits::Pair;
 use frames::digits::pair_at;
 use frames::faults;
@@ -19,15 +19,24 @@ use store::limits::MODULES;
 use store::limits::NEEDS;
 use store::limits::VERSIONS;
 use store::tables;
-use store::tables::Tables;
 use store::tables::UNUSED;
 
-// How far the reading came: the number of the first fault (0: none) and its line (one past the last), the state and the tables there.
+// How far the reading came: the number of the first fault (0: none) and its line (one past the last), the state there, and the tables array by array,
+// as `Tables` of store has them.
 pub struct Lines {
     pub number: u8,
     pub line: u32,
     pub state: State,
-    pub tables: Tables,
+    pub values: [u32; VERSIONS as usize],
+    pub owners: [u16; VERSIONS as usize],
+    pub starts: [u16; VERSIONS as usize],
+    pub marks: [u16; VERSIONS as usize],
+    pub firsts: [u16; MODULES as usize],
+    pub counts: [u16; MODULES as usize],
+    pub needies: [u16; NEEDS as usize],
+    pub targets: [u16; NEEDS as usize],
+    pub lows: [u32; NEEDS as usize],
+    pub highs: [u32; NEEDS as usize],
 }
 
 // Lines of digits, a frame a line. The digit loop is left at the first character that can't stand, and the reading at the first faulty line.
@@ -100,7 +109,10 @@ pub fn read_lines(text: &[u8]) -> Lines
         at += 1;
         line += 1;
     }
-    let tables = Tables {
+    Lines {
+        number,
+        line,
+        state: s,
         values,
         owners,
         starts,
@@ -111,53 +123,13 @@ pub fn read_lines(text: &[u8]) -> Lines
         targets,
         lows,
         highs,
-    };
-    Lines {
-        number,
-        line,
-        state: s,
-        tables,
     }
-}
-
-// The same reading, with another fault told.
-fn with_fault(l: Lines, told: Fault) -> Lines
-    ensures { λ r. ⌜ r ≡ withFault l told ⌝ }
-{
-    let mut next = l;
-    next.number = told.number;
-    next.line = told.line;
-    next
-}
-
-// When every line is good: 5 where there is no end, and 8 where the root hasn't exactly one version.
-fn finish(l: Lines) -> Lines
-    ensures { λ r. ⌜ r ≡ finished l ⌝ }
-{
-    let s = l.state;
-    let t = l.tables;
-    let roots = access::half_at(&t.counts, 0);
-    let last = faults::unless(roots == 1, 8);
-    let told = faults::end_fault(l.number, l.line, s.stands == 2, last);
-    with_fault(l, told)
 }
 
 // Tables that hold nothing, and a fault.
 fn nothing_read(number: u8) -> Lines
     ensures { λ r. ⌜ r ≡ nothingRead number ⌝ }
 {
-    let tables = Tables {
-        values: [0u32; VERSIONS as usize],
-        owners: [0u16; VERSIONS as usize],
-        starts: [0u16; VERSIONS as usize],
-        marks: [UNUSED; VERSIONS as usize],
-        firsts: [0u16; MODULES as usize],
-        counts: [0u16; MODULES as usize],
-        needies: [0u16; NEEDS as usize],
-        targets: [0u16; NEEDS as usize],
-        lows: [0u32; NEEDS as usize],
-        highs: [0u32; NEEDS as usize],
-    };
     let s = State {
         stands: 0,
         modules: 0,
@@ -168,16 +140,34 @@ fn nothing_read(number: u8) -> Lines
         number: number,
         line: 0,
         state: s,
-        tables: tables,
+        values: [0u32; VERSIONS as usize],
+        owners: [0u16; VERSIONS as usize],
+        starts: [0u16; VERSIONS as usize],
+        marks: [UNUSED; VERSIONS as usize],
+        firsts: [0u16; MODULES as usize],
+        counts: [0u16; MODULES as usize],
+        needies: [0u16; NEEDS as usize],
+        targets: [0u16; NEEDS as usize],
+        lows: [0u32; NEEDS as usize],
+        highs: [0u32; NEEDS as usize],
     }
 }
 
-// A catalogue's text read whole: the number and line of its refusal, or 0 and 0, and the tables of what was read.
+// A catalogue's text read as far as its first faulty line, and not at all where it is too long: `told` tells the fault.
 pub fn read(text: &[u8]) -> Lines
     ensures { λ r. ⌜ CatalogueRead (now (text .entry)) r ⌝ }
 {
     if BYTES < text.len() {
         return nothing_read(1);
     }
-    finish(read_lines(text))
+    read_lines(text)
+}
+
+// The number and line of a reading's refusal, or 0 and 0. When every line is good: 5 where there is no end, and 8 where the root hasn't exactly one version.
+pub fn told(number: u8, line: u32, s: State, counts: &[u16]) -> Fault
+    ensures { λ r. ⌜ r ≡ toldFrom number line s (now (counts .entry)) ⌝ }
+{
+    let roots = access::half_at(counts, 0);
+    let last = faults::unless(roots == 1, 8);
+    faults::end_fault(number, line, s.stands == 2, last)
 }

@@ -18,8 +18,9 @@ use Rattle.rules.specs.Search.{best, trialsOf}
 use Rattle.rules.specs.Sheet.{mostLines, sheetText}
 use Rattle.rules.proofs.Lists.{and-fst, and-snd, not-both}
 use Rattle.rules.proofs.Theorems.{sheets-tell}
+use Rattle.frames.specs.declared.faults.Fault as Told
 use Rattle.catalogue.specs.declared.reading.Lines.{Lines}
-use Rattle.catalogue.specs.Reading.{CatalogueRead}
+use Rattle.catalogue.specs.Reading.{tablesOf, toldOf, CatalogueRead}
 use Rattle.search.specs.declared.walk.Found.{Found}
 use Rattle.search.specs.Walking.{told}
 use Rattle.selection.specs.Written.{textIn}
@@ -32,7 +33,7 @@ use Rattle.picker.specs.Inside.{HasRoom, searchOf}
 use Rattle.picker.specs.Written.{sheetIn}
 use Rattle.picker.proofs.Turns.{stored-over}
 use Rattle.picker.proofs.Sheets.{sheet-length, sheet-is-the-rules, lines-short}
-use Rattle.picker.proofs.Readings.{ReadWell, read-fine, read-well}
+use Rattle.picker.proofs.Readings.{ReadWell, told-is, read-fine, read-well}
 use Rattle.picker.proofs.Outcomes.{sheetLines, SheetLeft, found-best, found-none, over-small, sheet-left}
 
 -- FITTING AREAS have room
@@ -47,12 +48,13 @@ has-room s h w a e =
     }
 
 -- A REFUSED TEXT: its number and line, and nothing is written
-pub refused : {text s h : List ℕ} {a : ℕ} {l : Lines} {r : Picked} → CatalogueRead text l → l .number ≢ 0 →
-    r ≡ picked (fault (l .number) (l .line)) 0 → ReadOwes text s h a r s h
-refused read bad e =
+pub refused : {text s h : List ℕ} {a : ℕ} {l : Lines} {x : Told.Fault} {r : Picked} → CatalogueRead text l → x ≡ toldOf l → x .number ≢ 0 →
+    r ≡ picked (fault (x .number) (x .line)) 0 → ReadOwes text s h a r s h
+refused {text} {l = l} read is-fault bad e =
+    let same = told-is text l read is-fault in
     record {
-      refused = λ q. (e ∙ ap (λ (x : Fault). picked x 0) (read .fault-is), refl, refl);
-      read = λ q. absurd (bad (ap (λ (x : Fault). x .number) (read .fault-is) ∙ eqb-true _ 0 q));
+      refused = λ q. (e ∙ ap (λ (y : Fault). picked y 0) same, refl, refl);
+      read = λ q. absurd (bad (ap (λ (y : Fault). y .number) same ∙ eqb-true _ 0 q));
     }
 
 -- READ: what is known of a pick whose text reads well
@@ -61,12 +63,14 @@ pub record Known (text selection sheet work : List ℕ) (allowance : ℕ) (l : L
   pub is-fine : textFault limits text ≡ fine
   pub well : ReadWell l (catalogueOf limits text)
 
-pub known : {text s h w : List ℕ} {a : ℕ} {l : Lines} → HasRoom s h w a → CatalogueRead text l → l .number ≡ 0 → Known text s h w a l
-known {text} {l = l} room read good = record { room = room; is-fine = read-fine text l read good; well = read-well text l read good }
+pub known : {text s h w : List ℕ} {a : ℕ} {l : Lines} {x : Told.Fault} → HasRoom s h w a → CatalogueRead text l → x ≡ toldOf l → x .number ≡ 0 →
+    Known text s h w a l
+known {text} {l = l} room read is-fault good =
+    record { room = room; is-fine = read-fine text l read is-fault good; well = read-well text l read is-fault good }
 
 -- THE TEXTS as they are written: of a selection, from the tables and the choices, and of a sheet, from what is noted
 abbrev pub textOf : Lines → (chosen : List ℕ) → List ℕ
-textOf l chosen = textIn (l .tables .values) chosen (l .state .modules)
+textOf l chosen = textIn (l .values) chosen (l .state .modules)
 
 abbrev pub sheetFrom : Found → (area : List ℕ) → List ℕ
 sheetFrom f area = sheetIn (take (f .noted .end) area) (f .noted .lines)
@@ -85,10 +89,10 @@ module _ {text s h w : List ℕ} {a : ℕ} {l : Lines} (k : Known text s h w a l
   pub text-fits : (chosen : List ℕ) → length (textOf l chosen) ≤ selectionLeast
   text-fits chosen =
       let few = settled-few chosen (l .state .modules) in
-      let long = text-length (l .tables .values) chosen (l .state .modules) in
+      let long = text-length (l .values) chosen (l .state .modules) in
       omega (arith, few-modules)
 
-  module _ {f : Found} (is-told : f ≡ told (searchOf (l .tables) (l .state .modules) a w)) where
+  module _ {f : Found} (is-told : f ≡ told (searchOf (tablesOf l) (l .state .modules) a w)) where
     -- A SELECTION is written
     pub selected : {r : Picked} {u : List ℕ} {size : ℕ} → f .found ≡ true → size ≡ length (textOf l (f .choices .chosen)) →
         u ≡ sets s 0 (textOf l (f .choices .chosen)) → r ≡ picked fine size → ReadOwes text s h a r u h
@@ -104,8 +108,8 @@ module _ {text s h w : List ℕ} {a : ℕ} {l : Lines} (k : Known text s h w a l
 
         rules-text : textOf l chosen ≡ selectionText c (take (c .modules) chosen)
         rules-text =
-            ap (textIn (l .tables .values) chosen) (k .well .modules) ∙
-            text-is-the-rules (l .tables) c (k .well .holds) (k .well .carried) chosen
+            ap (textIn (l .values) chosen) (k .well .modules) ∙
+            text-is-the-rules (tablesOf l) c (k .well .holds) (k .well .carried) chosen
 
     module _ (not-found : f .found ≡ false) where
       none-best : best c ≡ none
@@ -134,7 +138,7 @@ module _ {text s h w : List ℕ} {a : ℕ} {l : Lines} (k : Known text s h w a l
           is-ten = ap (λ (x : Picked). x .number) p
 
       -- A SHEET is written
-      module _ {area : List ℕ} (is-area : area ≡ searchOf (l .tables) (l .state .modules) a w .sheet .area) (has-all : f .noted .over ≡ false) where
+      module _ {area : List ℕ} (is-area : area ≡ searchOf (tablesOf l) (l .state .modules) a w .sheet .area) (has-all : f .noted .over ≡ false) where
         left : SheetLeft c a f area
         left = sheet-left (k .well) a w is-told none-best (k .room .few-lines) (k .room .work-room) is-area has-all
 

@@ -11,35 +11,40 @@ use Rattle.rules.specs.Lines.{Fault, fault}
 use Rattle.rules.specs.Frames.{catalogues, sheets}
 use Rattle.rules.specs.Catalogue.{Catalogue, limits, textFault, catalogueOf}
 use Rattle.rules.proofs.Lists.{cond-true, cond-false}
+use Rattle.frames.specs.declared.faults.Fault as Told
 use Rattle.catalogue.specs.declared.reading.Lines.{Lines}
-use Rattle.catalogue.specs.Reading.{CatalogueRead}
+use Rattle.catalogue.specs.Reading.{tablesOf, toldOf, CatalogueRead}
 use Rattle.sheets.specs.Reading.{lentBy, Given, SheetJudged}
 use Rattle.sheets.proofs.Judging.{read-given}
 use Rattle.picker.specs.Entry.{workLeast, zeroed}
 use Rattle.picker.specs.Checking.{checked, checkedBy, checkOn, checkOf, workAfter}
 use Rattle.picker.specs.declared.Checked.{Checked}
-use Rattle.picker.proofs.Readings.{ReadWell, read-fine, read-well}
+use Rattle.picker.proofs.Readings.{ReadWell, told-is, read-fine, read-well}
 
--- ONCE THE WORK AREA FITS: what the reading of the catalogue's text told decides
-module _ (text sheet : List ℕ) (l : Lines) (read : CatalogueRead text l) where
+-- ONCE THE WORK AREA FITS: the fault that is told of the reading of the catalogue's text decides
+module _ (text sheet : List ℕ) (l : Lines) (read : CatalogueRead text l) {x : Told.Fault} (is-fault : x ≡ toldOf l) where
   abbrev c : Catalogue
   c = catalogueOf limits text
 
-  pub text-told : {r : Checked} → l .number ≢ 0 → r ≡ checkedBy catalogues (fault (l .number) (l .line)) → r ≡ checkOn text sheet
-  text-told n e =
-      e ∙ ap (checkedBy catalogues) (read .fault-is) ∙
-      sym (cond-false _ _ (ne-eqb (textFault limits text .number) 0 (λ z. n (ap (λ (x : Fault). x .number) (read .fault-is) ∙ z))))
+  -- the number told is the text's
+  same-number : x .number ≡ textFault limits text .number
+  same-number = ap (λ (y : Fault). y .number) (told-is text l read is-fault)
 
-  module _ (good : l .number ≡ 0) where
+  pub text-told : {r : Checked} → x .number ≢ 0 → r ≡ checkedBy catalogues (fault (x .number) (x .line)) → r ≡ checkOn text sheet
+  text-told n e =
+      e ∙ ap (checkedBy catalogues) (told-is text l read is-fault) ∙
+      sym (cond-false _ _ (ne-eqb (textFault limits text .number) 0 (λ z. n (same-number ∙ z))))
+
+  module _ (good : x .number ≡ 0) where
     well : ReadWell l c
-    well = read-well text l read good
+    well = read-well text l read is-fault good
 
     -- the catalogue that the tables hold is the one that a sheet is judged over
-    given : (size : ℕ) → workLeast ≤ size → Given (l .tables) c (lentBy (l .tables) (l .state .modules)) (l .state .needs) size
+    given : (size : ℕ) → workLeast ≤ size → Given (tablesOf l) c (lentBy (tablesOf l) (l .state .modules)) (l .state .needs) size
     given size room =
-        let g = read-given text (l .tables) size (read-fine text l read good) (well .holds) (omega arith) in
+        let g = read-given text (tablesOf l) size (read-fine text l read is-fault good) (well .holds) (omega arith) in
         record {
-          lent-is = ap (lentBy (l .tables)) (well .modules);
+          lent-is = ap (lentBy (tablesOf l)) (well .modules);
           needs-are = well .needs;
           room = g .room;
           holds = g .holds;
@@ -47,11 +52,11 @@ module _ (text sheet : List ℕ) (l : Lines) (read : CatalogueRead text l) where
           narrow = g .narrow;
         }
 
-    pub sheet-told : {area exit : List ℕ} {x : Fault} {r : Checked} → workLeast ≤ length area →
-        SheetJudged (lentBy (l .tables) (l .state .modules)) (l .state .needs) sheet area exit x → r ≡ checkedBy sheets x → r ≡ checkOn text sheet
+    pub sheet-told : {area exit : List ℕ} {y : Fault} {r : Checked} → workLeast ≤ length area →
+        SheetJudged (lentBy (tablesOf l) (l .state .modules)) (l .state .needs) sheet area exit y → r ≡ checkedBy sheets y → r ≡ checkOn text sheet
     sheet-told {area} room judged e =
-        e ∙ ap (checkedBy sheets) (judged .as-rules (l .tables) c (given (length area) room)) ∙
-        sym (cond-true _ _ (eq-eqb (textFault limits text .number) 0 (sym (ap (λ (x : Fault). x .number) (read .fault-is)) ∙ good)))
+        e ∙ ap (checkedBy sheets) (judged .as-rules (tablesOf l) c (given (length area) room)) ∙
+        sym (cond-true _ _ (eq-eqb (textFault limits text .number) 0 (sym same-number ∙ good)))
 
 -- ANY WORK AREA
 module _ (text sheet work : List ℕ) where

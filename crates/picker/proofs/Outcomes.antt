@@ -17,6 +17,7 @@ use Rattle.rules.specs.Search.{newestFirst, best}
 use Rattle.rules.specs.Sheet.{Entry, mostLines, entryText, sheetOf}
 use Rattle.rules.proofs.Lists.{true-or-false, not-both}
 use Rattle.catalogue.specs.declared.reading.Lines.{Lines}
+use Rattle.catalogue.specs.Reading.{tablesOf}
 use Rattle.search.specs.declared.noting.Noted.{Noted}
 use Rattle.search.specs.declared.walk.Found.{Found}
 use Rattle.search.specs.Noting.{Sheet, sheet, noted}
@@ -41,26 +42,26 @@ pub record SheetLeft (c : Catalogue) (allowance : ℕ) (f : Found) (area : List 
   pub text : take (f .noted .end) area ≡ flatMap entryText (sheetLines c)
 
 module _ {l : Lines} {c : Catalogue} (k : ReadWell l c) (a : ℕ) (work : List ℕ) {f : Found}
-    (is-told : f ≡ told (searchOf (l .tables) (l .state .modules) a work)) where
+    (is-told : f ≡ told (searchOf (tablesOf l) (l .state .modules) a work)) where
   numbers : length (c .needs) ≤ noNumber
   numbers = omega (arith, k .carried .needs)
 
   abbrev walk : Walked
-  walk = ended (l .tables) c (k .holds) (k .well-formed) (k .carried .modules) numbers a work
+  walk = ended (tablesOf l) c (k .holds) (k .well-formed) (k .carried .modules) numbers a work
 
   told-walk : f ≡ told walk
-  told-walk = is-told ∙ ap (λ (n : ℕ). told (searchOf (l .tables) n a work)) (k .modules)
+  told-walk = is-told ∙ ap (λ (n : ℕ). told (searchOf (tablesOf l) n a work)) (k .modules)
 
   same-found : f .found ≡ walk .found
   same-found = ap (λ (x : Found). x .found) told-walk
 
   finds : (s : Selection) → best c ≡ some s → (f .found ≡ true) × (take (c .modules) (f .choices .chosen) ≡ s)
   finds s e =
-      let h = search-finds (l .tables) c (k .holds) (k .well-formed) (k .carried .modules) numbers a work s e in
+      let h = search-finds (tablesOf l) c (k .holds) (k .well-formed) (k .carried .modules) numbers a work s e in
       (same-found ∙ h .0, ap (λ (x : Found). take (c .modules) (x .choices .chosen)) told-walk ∙ h .1)
 
   fails : best c ≡ none → f .found ≡ false
-  fails e = same-found ∙ search-fails (l .tables) c (k .holds) (k .well-formed) (k .carried .modules) numbers a work e .0
+  fails e = same-found ∙ search-fails (tablesOf l) c (k .holds) (k .well-formed) (k .carried .modules) numbers a work e .0
 
   pub found-best : f .found ≡ true → best c ≡ some (take (c .modules) (f .choices .chosen))
   found-best h = go (best c) refl
@@ -88,12 +89,12 @@ module _ {l : Lines} {c : Catalogue} (k : ReadWell l c) (a : ℕ) (work : List �
 
     all-noted : length lines ≤ a → walk .sheet ≡ sheet (sets work 0 text) (noted (length lines) (length text) false)
     all-noted h =
-        search-sheet (l .tables) c (k .holds) (k .well-formed) (k .carried .modules) numbers a work (k .carried) e h small (omega arith)
+        search-sheet (tablesOf l) c (k .holds) (k .well-formed) (k .carried .modules) numbers a work (k .carried) e h small (omega arith)
 
     too-many : a < length lines → f .noted .over ≡ true
     too-many h =
         ap (λ (n : Noted). n .over) same-noted ∙
-        search-over (l .tables) c (k .holds) (k .well-formed) (k .carried .modules) numbers a work e h
+        search-over (tablesOf l) c (k .holds) (k .well-formed) (k .carried .modules) numbers a work e h
 
     pub over-small : f .noted .over ≡ true → a < length lines
     over-small h = go (true-or-false (leb (length lines) a))
@@ -102,7 +103,7 @@ module _ {l : Lines} {c : Catalogue} (k : ReadWell l c) (a : ℕ) (work : List �
         go (inl b) = absurd (not-both h (ap (λ (n : Noted). n .over) same-noted ∙ ap (λ (x : Sheet). x .noted .over) (all-noted (leb-true _ a b))))
         go (inr b) = leb-false _ a b
 
-    pub sheet-left : {area : List ℕ} → area ≡ searchOf (l .tables) (l .state .modules) a work .sheet .area → f .noted .over ≡ false → SheetLeft c a f area
+    pub sheet-left : {area : List ℕ} → area ≡ searchOf (tablesOf l) (l .state .modules) a work .sheet .area → f .noted .over ≡ false → SheetLeft c a f area
     sheet-left {area} is-area h = go (true-or-false (leb (length lines) a))
       where
         left : length lines ≤ a → SheetLeft c a f area
@@ -114,7 +115,7 @@ module _ {l : Lines} {c : Catalogue} (k : ReadWell l c) (a : ℕ) (work : List �
               ends = ends;
               text =
                   ap₂ take ends
-                  (is-area ∙ ap (λ (n : ℕ). searchOf (l .tables) n a work .sheet .area) (k .modules) ∙ ap (λ (x : Sheet). x .area) (all-noted b) ∙
+                  (is-area ∙ ap (λ (n : ℕ). searchOf (tablesOf l) n a work .sheet .area) (k .modules) ∙ ap (λ (x : Sheet). x .area) (all-noted b) ∙
                   stored-over text work (omega (arith, lines-short lines))) ∙
                   take-append-seam text _;
             }

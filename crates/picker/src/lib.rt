@@ -71,26 +71,27 @@ fn pick_in(
         (now (selection .exit)) (now (sheet .exit)) ⌝ }
 {
     let read = reading::read(text);
-    if read.number != 0 {
-        return answer(read.number, read.line, 0);
-    }
     let s = read.state;
+    let told = reading::told(read.number, read.line, s, &read.counts);
+    if told.number != 0 {
+        return answer(told.number, told.line, 0);
+    }
     let r = find::find(
-        &read.tables.values,
-        &read.tables.starts,
-        &read.tables.marks,
-        &read.tables.firsts,
-        &read.tables.counts,
-        &read.tables.targets,
-        &read.tables.lows,
-        &read.tables.highs,
+        &read.values,
+        &read.starts,
+        &read.marks,
+        &read.firsts,
+        &read.counts,
+        &read.targets,
+        &read.lows,
+        &read.highs,
         work,
         s.modules,
         allowance,
     );
     if r.found {
         let choices = r.choices;
-        let size = write_selection(selection, &read.tables.values, &choices.chosen, s.modules);
+        let size = write_selection(selection, &read.values, &choices.chosen, s.modules);
         return answer(SELECTED, 0, size as u32);
     }
     let noted = r.noted;
@@ -148,20 +149,21 @@ fn check_in(text: &[u8], sheet: &[u8], work: &mut [u8]) -> Checked
     ensures { λ r. ⌜ r ≡ checkOn (now (text .entry)) (now (sheet .entry)) ⌝ }
 {
     let read = reading::read(text);
-    if read.number != 0 {
-        return verdict(read.number, read.line, CATALOGUE);
-    }
     let s = read.state;
+    let told = reading::told(read.number, read.line, s, &read.counts);
+    if told.number != 0 {
+        return verdict(told.number, told.line, CATALOGUE);
+    }
     let judged = read_sheet(
         sheet,
-        &read.tables.values,
-        &read.tables.owners,
-        &read.tables.firsts,
-        &read.tables.counts,
-        &read.tables.needies,
-        &read.tables.targets,
-        &read.tables.lows,
-        &read.tables.highs,
+        &read.values,
+        &read.owners,
+        &read.firsts,
+        &read.counts,
+        &read.needies,
+        &read.targets,
+        &read.lows,
+        &read.highs,
         s.modules,
         s.needs,
         work,

@@ -7,13 +7,18 @@ use Rattle.picker.proofs.check_in.Tie as tie
 read-requires : tie.Need-read-requires
 read-requires c κs = search needs
 
+told-requires : tie.Need-told-requires
+told-requires c κs = search needs
+
 verdict-requires : tie.Need-verdict-requires
 verdict-requires c κs = search needs
 
 returns : tie.Need-returns
 returns c =
-    let given = c .before .before .before .before .before .before .args in
-    text-told (given .text .now) (given .sheet .now) _ (c .before .before .read .ensures) (c .before .if1 .taken) (c .verdict .ensures)
+    let at-told = c .before .before .before in
+    let at-read = at-told .before .before .before .before .before in
+    let given = at-read .before .before .before .before .args in
+    text-told (given .text .now) (given .sheet .now) _ (at-read .read .ensures) (at-told .told .ensures) (c .before .if1 .taken) (c .verdict .ensures)
 
 read-sheet-requires : tie.Need-read-sheet-requires
 read-sheet-requires c κs = search needs
@@ -28,18 +33,20 @@ returns-2 : tie.Need-returns-2
 returns-2 c =
     let at-read-sheet = c .before .before .before in
     let at-if1 = at-read-sheet .before .before .before .before .before .before .before .before .before .before .before .before .before .before .before
-    .before .before .before .before .before in
-    let at-read = at-if1 .before in
+    .before .before .before .before in
+    let at-told = at-if1 .before .before in
+    let at-read = at-told .before .before .before .before .before in
     let at-entry = at-read .before .before .before .before in
     let given = at-entry .args in
-    sheet-told (given .text .now) (given .sheet .now) _ (at-read .read .ensures) (at-if1 .if1 .left) (at-entry .pre) (at-read-sheet .read-sheet .ensures)
-    (c .verdict2 .ensures)
+    sheet-told (given .text .now) (given .sheet .now) _ (at-read .read .ensures) (at-told .told .ensures) (at-if1 .if1 .left) (at-entry .pre)
+    (at-read-sheet .read-sheet .ensures) (c .verdict2 .ensures)
 
 pub check-in-spec : {M : Type 1} → statement M
 check-in-spec =
     tie.close
     (tie.spec
     read-requires
+    told-requires
     verdict-requires
     returns
     read-sheet-requires

@@ -15,12 +15,12 @@ use Rattle.frames.specs.Kinds.{rowFor}
 use Rattle.frames.specs.declared.digits.Pair.the-variants.{Byte, LineFeed}
 use Rattle.frames.proofs.Lines.{byte-stands}
 use Rattle.frames.proofs.InLine.{InLine, line-start, line-byte, line-feed, line-size}
-use Rattle.catalogue.specs.Reading.{LinesRead}
+use Rattle.catalogue.specs.Reading.{tablesFrom, LinesRead}
 use Rattle.store.specs.declared.tables.Tables.{Tables}
 use Rattle.store.specs.declared.frame.State.{State}
 use Rattle.store.specs.declared.frame.Last.{Last}
 use Rattle.store.proofs.Kept.{Sizes}
-use Rattle.catalogue.proofs.Steps.{AtLine, Got, tablesFrom, found, stopped, at-start, end-stops, wrong-stops, line-stops, line-kept}
+use Rattle.catalogue.proofs.Steps.{AtLine, Got, found, stopped, at-start, end-stops, wrong-stops, line-stops, line-kept}
 use Rattle.catalogue.proofs.Steps.{line-told, after-told, tables-told}
 use Rattle.catalogue.proofs.reading.read_lines.Statement.{statement}
 use Rattle.catalogue.proofs.reading.read_lines.Tie as tie
