@@ -18,10 +18,10 @@ use Rattle.rules.specs.Sheet.{Entry, mostLines, entryText, sheetOf}
 use Rattle.rules.proofs.Lists.{true-or-false, not-both}
 use Rattle.catalogue.specs.declared.reading.Lines.{Lines}
 use Rattle.catalogue.specs.Reading.{tablesOf}
-use Rattle.search.specs.declared.noting.Noted.{Noted}
+use Rattle.moves.specs.declared.noting.Noted.{Noted}
 use Rattle.search.specs.declared.walk.Found.{Found}
-use Rattle.search.specs.Noting.{Sheet, sheet, noted}
-use Rattle.search.specs.Scan.{noNumber}
+use Rattle.moves.specs.Noting.{Sheet, sheet, noted}
+use Rattle.moves.specs.Scan.{noNumber}
 use Rattle.search.specs.Walking.{Walked, told}
 use Rattle.search.proofs.Searched.{ended, search-finds, search-fails, search-over, search-sheet}
 use Rattle.picker.specs.Entry.{workLeast}

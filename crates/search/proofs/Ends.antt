@@ -20,13 +20,13 @@ use Rattle.rules.proofs.Selections.{next-first}
 use Rattle.rules.proofs.Searches.{next-cases, search-done, search-next}
 use Rattle.rules.proofs.Sheets.{lines-next}
 use Rattle.search.specs.declared.choices.Choices.{Choices}
-use Rattle.search.specs.declared.wanted.Wanted.{Wanted}
+use Rattle.moves.specs.declared.wanted.Wanted.{Wanted}
 use Rattle.search.specs.Choosing.{choices}
-use Rattle.search.specs.Wanted.{noModule}
-use Rattle.search.specs.Noting.{Sheet, noteIn, numberIn, entryBytes}
+use Rattle.moves.specs.Wanted.{noModule}
+use Rattle.moves.specs.Noting.{Sheet, noteIn, numberIn, entryBytes}
 use Rattle.search.specs.Walking.{Moves, Walked, walked, takenBack, tryWalk, eachWalk, walkIn}
-use Rattle.search.proofs.NotedLines.{notesIn, notes-append, notes-last, over-stays, room-before, exact}
-use Rattle.search.proofs.Chosen.{chosenOf, Chosen, same-choice, chosen-more}
+use Rattle.moves.proofs.NotedLines.{notesIn, notes-append, notes-last, over-stays, room-before, exact}
+use Rattle.moves.proofs.Chosen.{chosenOf, Chosen, same-choice, chosen-more}
 use Rattle.search.proofs.Follows.{Asks, Follows}
 
 module _ (c : Catalogue) (few : c .modules ≤ 32) (v : Moves) (follows : Follows v c) (a : ℕ) (start : Sheet) (fresh : numberIn start ≡ 0) where

@@ -12,14 +12,14 @@ use Rattle.rules.specs.Sheet.{asking}
 use Rattle.rules.proofs.Selections.{next-first}
 use Rattle.store.specs.Tables.{Holds}
 use Rattle.store.specs.declared.tables.Tables.{Tables}
-use Rattle.search.specs.Scan.{noNumber, numberOf}
-use Rattle.search.specs.Wanted.{noModule}
+use Rattle.moves.specs.Scan.{noNumber, numberOf}
+use Rattle.moves.specs.Wanted.{noModule}
 use Rattle.search.specs.Walking.{Moves, movesIn}
 use Rattle.search.proofs.Newest.{newest-run}
-use Rattle.search.proofs.Chosen.{chosenOf, Chosen}
-use Rattle.search.proofs.Barring.{barring-law}
-use Rattle.search.proofs.Asked.{wanted-none, wanted-next}
-use Rattle.search.proofs.Fitted.{fits-free, barred-unfit}
+use Rattle.moves.proofs.Chosen.{chosenOf, Chosen}
+use Rattle.moves.proofs.Barring.{barring-law}
+use Rattle.moves.proofs.Asked.{wanted-none, wanted-next}
+use Rattle.moves.proofs.Fitted.{fits-free, barred-unfit}
 
 -- where module m is next: it is wanted, by the need that asks for it, and a version fits just if no need bars it; else that need is told
 pub record Asks (v : Moves) (c : Catalogue) (chosen : List ℕ) (m : ℕ) : Type 0 where

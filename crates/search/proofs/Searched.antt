@@ -20,11 +20,11 @@ use Rattle.rules.proofs.Lists.{and-fst, and-snd}
 use Rattle.rules.proofs.Theorems.{sheets-tell}
 use Rattle.store.specs.Tables.{Holds}
 use Rattle.store.specs.declared.tables.Tables.{Tables}
-use Rattle.search.specs.Scan.{noNumber}
-use Rattle.search.specs.Noting.{Sheet, sheet, noted, entryBytes}
+use Rattle.moves.specs.Scan.{noNumber}
+use Rattle.moves.specs.Noting.{Sheet, sheet, noted, entryBytes}
 use Rattle.search.specs.Walking.{Moves, Walked, started, searchIn}
-use Rattle.search.proofs.NotedLines.{notesIn, linesText, too-many, all-noted}
-use Rattle.search.proofs.Chosen.{chosenOf}
+use Rattle.moves.proofs.NotedLines.{notesIn, linesText, too-many, all-noted}
+use Rattle.moves.proofs.Chosen.{chosenOf}
 use Rattle.search.proofs.Follows.{Follows, movesOf, tables-follow}
 use Rattle.search.proofs.Ends.{Ends, walk-law}
 use Rattle.search.proofs.Start.{best-found, startIn, start-root, start-chosen}

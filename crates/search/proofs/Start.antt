@@ -13,7 +13,7 @@ use Rattle.rules.specs.Search.{newestFirst, searchFrom, search, best}
 use Rattle.rules.proofs.Partials.{root-fits, root-partial}
 use Rattle.store.specs.Tables.{Holds}
 use Rattle.store.specs.declared.tables.Tables.{Tables}
-use Rattle.search.proofs.Chosen.{chosenOf, Chosen}
+use Rattle.moves.proofs.Chosen.{chosenOf, Chosen}
 
 -- the best selection is what the search from the root finds
 pub best-found : (c : Catalogue) → best c ≡ searchFrom (c .modules) c (newestFirst c) (rootOnly c) .found

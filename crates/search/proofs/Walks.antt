@@ -11,12 +11,12 @@ use borrow.Author.Tests.{eq-eqb, ne-eqb}
 use Rattle.rules.specs.Sheet.{cites, resolves}
 use Rattle.rules.proofs.Lists.{cond-true, cond-false}
 use Rattle.search.specs.declared.choices.Choices.{Choices}
-use Rattle.search.specs.declared.noting.Noted.{Noted}
+use Rattle.moves.specs.declared.noting.Noted.{Noted}
 use Rattle.search.specs.declared.walk.Found.{Found}
-use Rattle.search.specs.declared.wanted.Wanted.{Wanted}
+use Rattle.moves.specs.declared.wanted.Wanted.{Wanted}
 use Rattle.search.specs.Choosing.{choices, falling}
-use Rattle.search.specs.Wanted.{noModule, noneWanted}
-use Rattle.search.specs.Noting.{Sheet, sheet, noteIn, numberIn, entryBytes}
+use Rattle.moves.specs.Wanted.{noModule, noneWanted}
+use Rattle.moves.specs.Noting.{Sheet, sheet, noteIn, numberIn, entryBytes}
 use Rattle.search.specs.Walking.{Moves, Walked, walked, told, tryWalk, eachWalk, walkIn, started}
 
 -- WHAT A CALL TELLS beside the work area, and the work area, are what it ends with

@@ -2,7 +2,7 @@
 use mathlib.Core.List.{List, [], _∷_}
 use Prim.Native.Nat.{ℕ, zero, suc, _+_}
 use Rattle.search.specs.declared.choices.Choices.{Choices}
-use Rattle.search.specs.declared.wanted.Wanted.{Wanted}
+use Rattle.moves.specs.declared.wanted.Wanted.{Wanted}
 
 abbrev pub choices : (chosen : List ℕ) → (next : Wanted) → Choices
 choices xs w = record { chosen = xs; next = w }

@@ -1,7 +1,3 @@
--- What the search's functions owe, over lists as the tables have them.
+-- What the search's functions owe: the record of choices, and the search as place and trial make it.
 pub mod Choosing
-pub mod Scan
-pub mod Wanted
-pub mod Fitting
-pub mod Noting
 pub mod Walking

@@ -7,12 +7,12 @@ use lib.ListN.{getD, set, replicate}
 use Rattle.rules.specs.Sheet.{cites, resolves}
 use Rattle.search.specs.declared.choices.Choices.{Choices}
 use Rattle.search.specs.declared.walk.Found.{Found}
-use Rattle.search.specs.declared.wanted.Wanted.{Wanted}
+use Rattle.moves.specs.declared.wanted.Wanted.{Wanted}
 use Rattle.search.specs.Choosing.{choices, falling}
-use Rattle.search.specs.Fitting.{fitsIn}
-use Rattle.search.specs.Scan.{scanIn, overIn}
-use Rattle.search.specs.Wanted.{noModule, noneWanted, wantedIn}
-use Rattle.search.specs.Noting.{Sheet, sheet, noted, noteIn, numberIn, entryBytes}
+use Rattle.moves.specs.Fitting.{fitsIn}
+use Rattle.moves.specs.Scan.{scanIn, overIn}
+use Rattle.moves.specs.Wanted.{noModule, noneWanted, wantedIn}
+use Rattle.moves.specs.Noting.{Sheet, sheet, noted, noteIn, numberIn, entryBytes}
 
 -- what a search asks of the tables: the module that is wanted next, its versions in the order of their trials, whether a version fits, and the need
 -- that bars it where it does not

@@ -1,8 +1,4 @@
 // The backtracking search over the tables of a catalogue: a selection, or the lines of a sheet in the work area.
 pub mod choices;
 pub mod find;
-pub mod fitting;
-pub mod noting;
-pub mod scan;
 pub mod walk;
-pub mod wanted;

@@ -1,15 +1,15 @@
 // The backtracking search: from a place to its trials, and from a trial to the next place.
 ghost use mathlib.Core.Path.{_≡_};
 ghost use Prim.Native.Nat.{_<_};
-ghost use Rattle.search.specs.Noting.{sheet};
+ghost use Rattle.moves.specs.Noting.{sheet};
 ghost use Rattle.search.specs.Walking.{PlacesFit, movesIn, told, tryWalk, walkIn};
 use crate::choices::Choices;
-use crate::fitting;
-use crate::noting;
-use crate::noting::Noted;
-use crate::wanted::NO_MODULE;
-use crate::wanted::Wanted;
 use frames::numbers::Place;
+use moves::fitting;
+use moves::noting;
+use moves::noting::Noted;
+use moves::wanted::NO_MODULE;
+use moves::wanted::Wanted;
 use store::limits::MODULES;
 use store::limits::NEEDS;
 use store::limits::VERSIONS;

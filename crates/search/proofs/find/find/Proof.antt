@@ -5,7 +5,7 @@ use native.Mathlib.Omega.{arith}
 use borrow.Author.Needs.{needs}
 use Rattle.store.specs.declared.lookup.Span.{Span}
 use Rattle.search.specs.declared.choices.Choices.{Choices}
-use Rattle.search.specs.Noting.{sheet, noted}
+use Rattle.moves.specs.Noting.{sheet, noted}
 use Rattle.search.specs.Walking.{Walked, movesIn, told, walkIn}
 use Rattle.search.proofs.Walks.{start-is}
 use Rattle.search.proofs.find.find.Statement.{statement}

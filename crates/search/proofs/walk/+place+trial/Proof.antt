@@ -10,7 +10,7 @@ use borrow.Fn.PlainCycle.{Measures, is, falls, and}
 use lib.ListN.{length}
 use Rattle.store.specs.declared.lookup.Span.{Span}
 use Rattle.search.specs.Choosing.{falling}
-use Rattle.search.specs.Noting.{sheet}
+use Rattle.moves.specs.Noting.{sheet}
 use Rattle.search.specs.Walking.{movesIn, eachWalk, walkIn}
 use Rattle.search.proofs.Walks.{noted-is, ended-is, both-told, try-barred, try-found, try-failed}
 use Rattle.search.proofs.Walks.{place-out, place-found, place-begun, Going, going-start, going-found, going-on, going-done}
@@ -23,10 +23,10 @@ use Rattle.search.proofs.walk.+place+trial.Lts-trial as trial-lts
 use Rattle.search.proofs.choices.Choices.choose.Reads as choose-reads
 use Rattle.search.proofs.choices.Choices.next_module.Reads as next-module-reads
 use Rattle.search.proofs.choices.Choices.take_back.Reads as take-back-reads
-use Rattle.search.proofs.fitting.cite_bar.Reads as cite-bar-reads
-use Rattle.search.proofs.fitting.fits.Reads as fits-reads
-use Rattle.search.proofs.noting.cite.Reads as cite-reads
-use Rattle.search.proofs.noting.resolve.Reads as resolve-reads
+use Rattle.moves.proofs.fitting.cite_bar.Reads as cite-bar-reads
+use Rattle.moves.proofs.fitting.fits.Reads as fits-reads
+use Rattle.moves.proofs.noting.cite.Reads as cite-reads
+use Rattle.moves.proofs.noting.resolve.Reads as resolve-reads
 use Rattle.store.proofs.lookup.versions_of.Reads as versions-of-reads
 use Rattle.store.proofs.tables.one_less.Reads as one-less-reads
 use Rattle.search.proofs.walk.+place+trial.{statement}
