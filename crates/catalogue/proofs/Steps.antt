@@ -24,9 +24,8 @@ use Rattle.frames.proofs.Steps.{Counted, Stopped, counted-start, counted-next, 
 use Rattle.store.specs.declared.frame.Fields.{Fields}
 use Rattle.store.specs.declared.frame.State.{State}
 use Rattle.store.specs.declared.frame.Last.{Last}
-use Rattle.store.specs.declared.tables.Tables.{Tables}
 use Rattle.store.specs.Frame.{stateOf, lastOf, fieldsAt, frameFault, after}
-use Rattle.store.specs.Tables.{noTables, keptAt, isVersion, isNeed, Holds, kept, lastIn}
+use Rattle.store.specs.Tables.{Tables, noTables, keptAt, isVersion, isNeed, Holds, kept, lastIn}
 use Rattle.store.proofs.Faults.{fieldsIn, after-law}
 use Rattle.store.proofs.Kept.{Reads, reads-start, reads-step, count-law, last-law}
 use Rattle.catalogue.specs.declared.reading.Lines.{Lines}

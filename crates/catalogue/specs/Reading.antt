@@ -13,9 +13,8 @@ use Rattle.frames.specs.Faults.{endFault}
 use Rattle.frames.specs.declared.faults.Fault.{Fault}
 use Rattle.catalogue.specs.declared.reading.Lines.{Lines}
 use Rattle.store.specs.declared.frame.State.{State}
-use Rattle.store.specs.declared.tables.Tables.{Tables}
 use Rattle.store.specs.Frame.{stateOf}
-use Rattle.store.specs.Tables.{noTables, Holds}
+use Rattle.store.specs.Tables.{Tables, noTables, Holds}
 
 abbrev pub start : Reading
 start = reading 0 noCatalogue

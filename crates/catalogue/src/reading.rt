@@ -21,8 +21,9 @@ use store::limits::VERSIONS;
 use store::tables;
 use store::tables::UNUSED;
 
-// How far the reading came: the number of the first fault (0: none) and its line (one past the last), the state there, and the tables array by array,
-// as `Tables` of store has them.
+// How far the reading came: the number of the first fault (0: none) and its line (one past the last), the state and the tables there. Versions by place:
+// number, owner, first need, and a mark: unused, or one more than its needs. Modules: the place of the first version, and how many. Needs by number: the
+// version's place, the target, and the range.
 pub struct Lines {
     pub number: u8,
     pub line: u32,

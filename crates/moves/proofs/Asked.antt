@@ -20,8 +20,7 @@ use Rattle.rules.specs.Sheet.{asking}
 use Rattle.rules.proofs.Lists.{true-or-false, first-mem, below-mem}
 use Rattle.rules.proofs.Selections.{Next, suc-not-zero, asked-mem, mem-isAsked, isAsked-mem, next-first, next-none}
 use Rattle.rules.proofs.Theorems.{next-is-lowest}
-use Rattle.store.specs.Tables.{Holds}
-use Rattle.store.specs.declared.tables.Tables.{Tables}
+use Rattle.store.specs.Tables.{Tables, Holds}
 use Rattle.moves.specs.Wanted.{noModule, wantedBy, noneWanted, narrowed, betterIn, foldIn, wantedState, wantedAt, wantedIn}
 use Rattle.moves.specs.declared.wanted.Wanted.{Wanted}
 use Rattle.moves.proofs.Chosen.{chosenOf}

@@ -16,8 +16,7 @@ use Rattle.rules.specs.Selection.{Selection, chosenAt, withChoice, needsAt, ask
 use Rattle.rules.specs.Search.{leavesOut, bars, barring}
 use Rattle.rules.proofs.Lists.{cond-true, cond-false, same-or-not, below-mem}
 use Rattle.rules.proofs.Selections.{chosen-new, chosen-old, of-parts, needsAt-mem}
-use Rattle.store.specs.Tables.{Holds}
-use Rattle.store.specs.declared.tables.Tables.{Tables}
+use Rattle.store.specs.Tables.{Tables, Holds}
 use Rattle.moves.specs.Scan.{noNumber, numberOf, leavesOutIn, barsIn, firstIn, scanState, scanIn, overIn}
 use Rattle.moves.proofs.Chosen.{chosenOf, Chosen}
 

@@ -18,8 +18,7 @@ use Rattle.rules.specs.Search.{bars, barring, leavesOut}
 use Rattle.rules.proofs.Lists.{true-or-false, not-both, and-fst, and-snd, and-both, cond-true, first-mem, first-none}
 use Rattle.rules.proofs.Selections.{suc-not-zero, chosen-new, of-parts, needsAt-mem, mem-needsAt, asked-mem, mem-asked, asked-keeps, Next, next-first}
 use Rattle.rules.proofs.Partials.{choice-cases, choice-keeps, bars-cases}
-use Rattle.store.specs.Tables.{Holds}
-use Rattle.store.specs.declared.tables.Tables.{Tables}
+use Rattle.store.specs.Tables.{Tables, Holds}
 use Rattle.moves.specs.declared.wanted.Wanted.{Wanted}
 use Rattle.moves.specs.Fitting.{fitsIn}
 use Rattle.moves.specs.Scan.{noNumber, numberOf, barsIn, scanState}

@@ -3,7 +3,7 @@ use mathlib.Core.List.{List}
 use Prim.Native.Nat.{ℕ, _≤_}
 use lib.ListN.{length, getD}
 use Rattle.rules.specs.Sheet.{mostLines}
-use Rattle.store.specs.declared.tables.Tables.{Tables}
+use Rattle.store.specs.Tables.{Tables}
 use Rattle.search.specs.Walking.{movesIn, Walked, searchIn}
 use Rattle.picker.specs.Entry.{selectionLeast, sheetLeast, workLeast}
 

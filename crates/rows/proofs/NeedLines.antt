@@ -9,8 +9,7 @@ use lib.ListN.{getD}
 use Rattle.rules.specs.Catalogue.{Catalogue, versionAtPlace, needAt, needyOf, isWithin, inRange}
 use Rattle.rules.specs.Sheet.{needLine}
 use Rattle.rules.proofs.Lists.{cond-true, cond-false}
-use Rattle.store.specs.Tables.{Holds}
-use Rattle.store.specs.declared.tables.Tables.{Tables}
+use Rattle.store.specs.Tables.{Tables, Holds}
 use Rattle.rows.specs.Bits.{hasBit}
 use Rattle.rows.specs.Area.{absentWord}
 use Rattle.rows.specs.Needed.{citedIn, needBit, needVersions, needWord}

@@ -11,8 +11,7 @@ use Rattle.rules.specs.Catalogue.{Catalogue, WellFormed, placesOf}
 use Rattle.rules.specs.Sheet.{Incompatibility, isFull, refutes}
 use Rattle.rules.proofs.Lists.{below-mem, length-upFrom}
 use Rattle.rules.proofs.Partials.{root-fits}
-use Rattle.store.specs.Tables.{Holds}
-use Rattle.store.specs.declared.tables.Tables.{Tables}
+use Rattle.store.specs.Tables.{Tables, Holds}
 use Rattle.rows.specs.Bits.{hasBit, bitsOf}
 use Rattle.rows.specs.Area.{wordAt, absentWord}
 use Rattle.rows.specs.Derived.{isFullIn, refutesIn}

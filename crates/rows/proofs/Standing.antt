@@ -8,7 +8,7 @@ use native.Mathlib.Nat.{min-eq-left}
 use borrow.Author.Tests.{lt-ltb, le-ltb}
 use lib.Dec.{ltb}
 use Rattle.rules.specs.Catalogue.{Catalogue}
-use Rattle.store.specs.declared.tables.Tables.{Tables}
+use Rattle.store.specs.Tables.{Tables}
 use Rattle.rows.specs.Bits.{hasBit, bitsOf, inWord}
 use Rattle.rows.specs.Area.{wordAt, withRow, absentWord}
 use Rattle.rows.specs.Stands.{HasRow, Narrow}

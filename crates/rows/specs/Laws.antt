@@ -5,8 +5,7 @@ use mathlib.Core.List.{List}
 use Prim.Native.Nat.{ℕ}
 use Rattle.rules.specs.Catalogue.{Catalogue, WellFormed}
 use Rattle.rules.specs.Sheet.{Incompatibility, needLine, resolved, refutes}
-use Rattle.store.specs.Tables.{Holds}
-use Rattle.store.specs.declared.tables.Tables.{Tables}
+use Rattle.store.specs.Tables.{Tables, Holds}
 use Rattle.rows.specs.Area.{withRow}
 use Rattle.rows.specs.Needed.{needRow}
 use Rattle.rows.specs.Derived.{resolvedRow, refutesIn}

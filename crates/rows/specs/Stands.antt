@@ -6,7 +6,7 @@ use Prim.Native.Nat.{ℕ, suc, _+_, _*_, _≤_, _<_}
 use lib.ListN.{length, getD}
 use Rattle.rules.specs.Catalogue.{Catalogue}
 use Rattle.rules.specs.Sheet.{Incompatibility}
-use Rattle.store.specs.declared.tables.Tables.{Tables}
+use Rattle.store.specs.Tables.{Tables}
 use Rattle.rows.specs.Bits.{hasBit}
 use Rattle.rows.specs.Area.{wordAt, absentWord}
 

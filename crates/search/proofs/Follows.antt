@@ -10,8 +10,7 @@ use Rattle.rules.specs.Selection.{nextModules}
 use Rattle.rules.specs.Search.{barring, newestFirst}
 use Rattle.rules.specs.Sheet.{asking}
 use Rattle.rules.proofs.Selections.{next-first}
-use Rattle.store.specs.Tables.{Holds}
-use Rattle.store.specs.declared.tables.Tables.{Tables}
+use Rattle.store.specs.Tables.{Tables, Holds}
 use Rattle.moves.specs.Scan.{noNumber, numberOf}
 use Rattle.moves.specs.Wanted.{noModule}
 use Rattle.search.specs.Walking.{Moves, movesIn}

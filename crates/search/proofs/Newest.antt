@@ -9,8 +9,7 @@ use Rattle.rules.specs.Lists.{keep, upFrom, below, downFrom}
 use Rattle.rules.specs.Catalogue.{Catalogue, isOf}
 use Rattle.rules.specs.Search.{newestFirst}
 use Rattle.rules.proofs.Lists.{upFrom-last}
-use Rattle.store.specs.Tables.{Holds}
-use Rattle.store.specs.declared.tables.Tables.{Tables}
+use Rattle.store.specs.Tables.{Tables, Holds}
 use Rattle.search.specs.Choosing.{falling}
 
 -- a list from its end

@@ -18,8 +18,7 @@ use Rattle.rules.specs.Search.{newestFirst, searchFrom, best}
 use Rattle.rules.specs.Sheet.{Entry, cites, resolves, entryFits, entriesFit, entryText, isRefuting, refutes, lastLine, mostLines, sheetOf, searchLines}
 use Rattle.rules.proofs.Lists.{and-fst, and-snd}
 use Rattle.rules.proofs.Theorems.{sheets-tell}
-use Rattle.store.specs.Tables.{Holds}
-use Rattle.store.specs.declared.tables.Tables.{Tables}
+use Rattle.store.specs.Tables.{Tables, Holds}
 use Rattle.moves.specs.Scan.{noNumber}
 use Rattle.moves.specs.Noting.{Sheet, sheet, noted, entryBytes}
 use Rattle.search.specs.Walking.{Moves, Walked, started, searchIn}

@@ -11,8 +11,7 @@ use Rattle.rules.specs.Catalogue.{Catalogue, WellFormed, placesOf}
 use Rattle.rules.specs.Selection.{Selection, chosenAt, rootOnly}
 use Rattle.rules.specs.Search.{newestFirst, searchFrom, search, best}
 use Rattle.rules.proofs.Partials.{root-fits, root-partial}
-use Rattle.store.specs.Tables.{Holds}
-use Rattle.store.specs.declared.tables.Tables.{Tables}
+use Rattle.store.specs.Tables.{Tables, Holds}
 use Rattle.moves.proofs.Chosen.{chosenOf, Chosen}
 
 -- the best selection is what the search from the root finds

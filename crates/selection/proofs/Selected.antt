@@ -12,8 +12,7 @@ use Rattle.rules.specs.Frames.{frameText, versionBytes}
 use Rattle.rules.specs.Catalogue.{Catalogue, Carried, versionAtPlace}
 use Rattle.rules.specs.Selection.{settled, selectedLine, selectionText}
 use Rattle.rules.proofs.Lists.{keep-mem, below-mem}
-use Rattle.store.specs.Tables.{Holds}
-use Rattle.store.specs.declared.tables.Tables.{Tables}
+use Rattle.store.specs.Tables.{Tables, Holds}
 use Rattle.selection.specs.Written.{settledIn, lineOf, lineIn, endLine, textIn}
 use Rattle.selection.proofs.Whole.{settled-few}
 

@@ -15,8 +15,7 @@ use Rattle.rules.specs.Catalogue.{Catalogue, WellFormed, Carried, limits, textF
 use Rattle.rules.specs.Sheet.{SheetReading, sheetReading, sheetReader, lastLine, sheetFault}
 use Rattle.rules.proofs.Readers.{same-told}
 use Rattle.rules.proofs.Reading.{reads-well-formed, reads-few, limits-carried}
-use Rattle.store.specs.Tables.{Holds}
-use Rattle.store.specs.declared.tables.Tables.{Tables}
+use Rattle.store.specs.Tables.{Tables, Holds}
 use Rattle.store.proofs.Kept.{count-holds}
 use Rattle.rows.proofs.Words.{words-size}
 use Rattle.rows.proofs.Refuting.{refutes-law}

@@ -18,8 +18,7 @@ use Rattle.rules.specs.Sheet.{SheetReading, sheetReading, sheetReader, sheetOrd
 use Rattle.rules.proofs.Lists.{and-fst, and-snd, longer, length-last, one-more}
 use Rattle.rules.proofs.Readers.{orElse-none, unless-none}
 use Rattle.rules.proofs.Incompatibilities.{lines-length, lines-append}
-use Rattle.store.specs.Tables.{Holds}
-use Rattle.store.specs.declared.tables.Tables.{Tables}
+use Rattle.store.specs.Tables.{Tables, Holds}
 use Rattle.rows.specs.Area.{withRow}
 use Rattle.rows.specs.Stands.{Stands, HasRow, Narrow}
 use Rattle.rows.proofs.Standing.{others-kept}

@@ -10,8 +10,7 @@ use Rattle.rules.specs.Frames.{sheets, Reader, bad, readFrom, readText, faultOf
 use Rattle.rules.specs.Catalogue.{Catalogue, WellFormed, limits}
 use Rattle.rules.specs.Sheet.{mostLines, sheetFault}
 use Rattle.frames.specs.Reached.{reachedFrom}
-use Rattle.store.specs.Tables.{Holds}
-use Rattle.store.specs.declared.tables.Tables.{Tables}
+use Rattle.store.specs.Tables.{Tables, Holds}
 use Rattle.rows.specs.Needed.{needRow}
 use Rattle.rows.specs.Derived.{resolvedRow, refutesIn}
 use Rattle.rows.specs.Stands.{Narrow}

@@ -24,9 +24,8 @@ use Rattle.frames.proofs.InLine.{getD-zeros, longer-other}
 use Rattle.store.specs.declared.frame.Fields.{Fields}
 use Rattle.store.specs.declared.frame.State.{State}
 use Rattle.store.specs.declared.frame.Last.{Last}
-use Rattle.store.specs.declared.tables.Tables.{Tables}
 use Rattle.store.specs.Frame.{moduleNo, version, stateOf, lastOf, fieldsAt, checks, versionFault, needFault, frameFault}
-use Rattle.store.specs.Tables.{noTables, keptAt, isVersion, isNeed, kept, lastIn, Holds}
+use Rattle.store.specs.Tables.{Tables, noTables, keptAt, isVersion, isNeed, kept, lastIn, Holds}
 use Rattle.store.proofs.Faults.{Known, a-head, a-version, a-need, a-caret, an-end, known-kind, fieldsIn, fault-law}
 use Rattle.store.proofs.Faults.{head-fields, version-fields, need-fields, caret-fields, end-fields}
 

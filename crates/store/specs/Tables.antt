@@ -11,9 +11,22 @@ use Rattle.store.specs.Frame.{moduleNo, place, version}
 use Rattle.store.specs.declared.frame.Fields.{Fields}
 use Rattle.store.specs.declared.frame.State.{State}
 use Rattle.store.specs.declared.frame.Last.{Last}
-use Rattle.store.specs.declared.tables.Tables.{Tables}
 use Rattle.store.specs.declared.lookup.Need.{Need}
 use Rattle.store.specs.declared.lookup.Span.{Span}
+
+-- THE TABLES: of versions, by place, the number, the owner, the first need, and a mark, 0 or one more than its needs; of modules the place of the first
+-- version, and how many; of needs, by number, the version's place, the target and the range
+pub record Tables : Type 0 where
+  pub values : List ℕ
+  pub owners : List ℕ
+  pub starts : List ℕ
+  pub marks : List ℕ
+  pub firsts : List ℕ
+  pub counts : List ℕ
+  pub needies : List ℕ
+  pub targets : List ℕ
+  pub lows : List ℕ
+  pub highs : List ℕ
 
 -- tables that hold nothing
 abbrev pub noTables : Tables

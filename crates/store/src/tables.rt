@@ -1,4 +1,4 @@
-// The tables that a catalogue is read into, what a frame adds to them, and what they tell of the version last read.
+// What a frame adds to the tables that a catalogue is read into, and what they tell of the version last read.
 ghost use mathlib.Core.Path.{_≡_};
 ghost use mathlib.Core.Bool.{_&&_};
 ghost use Prim.Native.Nat.{_+_, _-_, _<_};
@@ -8,9 +8,6 @@ use crate::access;
 use crate::frame::Fields;
 use crate::frame::Last;
 use crate::frame::State;
-use crate::limits::MODULES;
-use crate::limits::NEEDS;
-use crate::limits::VERSIONS;
 use frames::kinds::CARET;
 use frames::kinds::NEED;
 use frames::kinds::VERSION;
@@ -20,21 +17,6 @@ use frames::numbers::Version;
 
 // The mark of a version that is not there.
 pub const UNUSED: u16 = 0;
-
-// Versions by place: number, owner, first need, and a mark: unused, or one more than its needs. Modules: the place of the first version, and how
-// many. Needs by number: the version's place, the target, and the range.
-pub struct Tables {
-    pub values: [u32; VERSIONS as usize],
-    pub owners: [u16; VERSIONS as usize],
-    pub starts: [u16; VERSIONS as usize],
-    pub marks: [u16; VERSIONS as usize],
-    pub firsts: [u16; MODULES as usize],
-    pub counts: [u16; MODULES as usize],
-    pub needies: [u16; NEEDS as usize],
-    pub targets: [u16; NEEDS as usize],
-    pub lows: [u32; NEEDS as usize],
-    pub highs: [u32; NEEDS as usize],
-}
 
 // One less, or 0.
 pub fn one_less(x: u16) -> u16

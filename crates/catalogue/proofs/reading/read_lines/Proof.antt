@@ -16,7 +16,7 @@ use Rattle.frames.specs.declared.digits.Pair.the-variants.{Byte, LineFeed}
 use Rattle.frames.proofs.Lines.{byte-stands}
 use Rattle.frames.proofs.InLine.{InLine, line-start, line-byte, line-feed, line-size}
 use Rattle.catalogue.specs.Reading.{tablesFrom, LinesRead}
-use Rattle.store.specs.declared.tables.Tables.{Tables}
+use Rattle.store.specs.Tables.{Tables}
 use Rattle.store.specs.declared.frame.State.{State}
 use Rattle.store.specs.declared.frame.Last.{Last}
 use Rattle.store.proofs.Kept.{Sizes}
