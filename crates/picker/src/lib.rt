@@ -40,9 +40,9 @@ pub struct Checked {
 }
 
 // Numbers of the rules' table: a selection is written, no valid selection with a sheet written and without one, and areas that don't fit.
-const SELECTED: u8 = 0;
+pub const SELECTED: u8 = 0;
 
-const REFUTED: u8 = 9;
+pub const REFUTED: u8 = 9;
 
 const NO_SHEET: u8 = 10;
 

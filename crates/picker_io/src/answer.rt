@@ -3,11 +3,8 @@ ghost use mathlib.Core.Path.{_≡_};
 ghost use lib.ListN.{take};
 ghost use Rattle.picker_io.specs.Answer.{toldText, answerText};
 use frames::written;
-
-// Numbers of the rules' table: with them a selection and a sheet are written.
-const SELECTED: u8 = 0;
-
-const REFUTED: u8 = 9;
+use picker::REFUTED;
+use picker::SELECTED;
 
 // The kind of the frame that tells a number and a line, and the bytes of its line.
 const TOLD: u8 = 0x1F;

@@ -11,7 +11,7 @@ use lib.ListN.{length}
 use Rattle.store.specs.declared.lookup.Span.{Span}
 use Rattle.search.specs.Choosing.{falling}
 use Rattle.moves.specs.Noting.{sheet}
-use Rattle.search.specs.Walking.{movesIn, eachWalk, walkIn}
+use Rattle.search.specs.Walking.{Moves, movesIn, eachWalk, walkIn}
 use Rattle.search.proofs.Walks.{noted-is, ended-is, both-told, try-barred, try-found, try-failed}
 use Rattle.search.proofs.Walks.{place-out, place-found, place-begun, Going, going-start, going-found, going-on, going-done}
 use Rattle.search.proofs.walk.place.Reads as place
@@ -97,11 +97,18 @@ place-μ-loop values starts marks firsts counts targets lows highs work₀ modul
     «record» untried came sheet₁ =
     untried
 
+-- the moves over the tables that a place is lent
+abbrev place-moves : (t : ℕ) → place-lts.Start (place-calls t) (place-at t) place.Post place-Inv-loop place-μ-loop → Moves
+place-moves t c =
+    let given = c .args in
+    movesIn (given .values .now) (given .starts .now) (given .marks .now) (given .firsts .now) (given .counts .now) (given .targets .now)
+    (given .lows .now) (given .highs .now) (given .modules)
+
 place-returns : (t : ℕ) → place-lts.Need-returns (place-calls t) (place-at t) place.Post place-Inv-loop place-μ-loop
 place-returns t c =
-    let given = c .before .before .args in
-    let v = movesIn (given .values .now) (given .starts .now) (given .marks .now) (given .firsts .now) (given .counts .now) (given .targets .now)
-    (given .lows .now) (given .highs .now) (given .modules) in
+    let at-entry = c .before .before in
+    let given = at-entry .args in
+    let v = place-moves t at-entry in
     both-told (place-out v (given .allowance) (given .choices) (sheet (given .work .now) (given .noted)) (given .unsettled) (c .if1 .taken))
 
 place-next-module-requires : (t : ℕ) → place-lts.Need-next-module-requires (place-calls t) (place-at t) place.Post place-Inv-loop place-μ-loop
@@ -113,8 +120,7 @@ place-returns-2 t c =
     let at-if1 = at-next-module .before in
     let at-entry = at-if1 .before .before in
     let given = at-entry .args in
-    let v = movesIn (given .values .now) (given .starts .now) (given .marks .now) (given .firsts .now) (given .counts .now) (given .targets .now)
-    (given .lows .now) (given .highs .now) (given .modules) in
+    let v = place-moves t at-entry in
     both-told
     (place-found v (given .allowance) (given .choices) (sheet (given .work .now) (given .noted)) (at-next-module .next-module .ensures) (given .unsettled)
     (at-if1 .if1 .left)
@@ -177,8 +183,7 @@ place-returns-3 t c =
     let at-if1 = at-next-module .before in
     let at-entry = at-if1 .before .before in
     let given = at-entry .args in
-    let v = movesIn (given .values .now) (given .starts .now) (given .marks .now) (given .firsts .now) (given .counts .now) (given .targets .now)
-    (given .lows .now) (given .highs .now) (given .modules) in
+    let v = place-moves t at-entry in
     let begun = place-begun v (given .allowance) (given .choices) (sheet (given .work .now) (given .noted)) (at-next-module .next-module .ensures)
     (given .unsettled)
     (at-if1 .if1 .left) (at-if2 .if2 .left) (ap (λ (s : Span). falling (s .first) (s .count)) (at-versions-of .versions-of .ensures))
@@ -218,8 +223,7 @@ place-returns-4 t c =
     let at-if1 = at-next-module .before in
     let at-entry = at-if1 .before .before in
     let given = at-entry .args in
-    let v = movesIn (given .values .now) (given .starts .now) (given .marks .now) (given .firsts .now) (given .counts .now) (given .targets .now)
-    (given .lows .now) (given .highs .now) (given .modules) in
+    let v = place-moves t at-entry in
     let begun = place-begun v (given .allowance) (given .choices) (sheet (given .work .now) (given .noted)) (at-next-module .next-module .ensures)
     (given .unsettled)
     (at-if1 .if1 .left) (at-if2 .if2 .left) (ap (λ (s : Span). falling (s .first) (s .count)) (at-versions-of .versions-of .ensures))
@@ -227,6 +231,12 @@ place-returns-4 t c =
     both-told (going-done _ _ _ _ _ (c .before .loop .inv) (c .loop-test .left) ∙ begun)
 
 -- TRIAL
+abbrev trial-moves : (t : ℕ) → trial-lts.Start (trial-calls t) (trial-at t) trial.Post → Moves
+trial-moves t c =
+    let given = c .args in
+    movesIn (given .values .now) (given .starts .now) (given .marks .now) (given .firsts .now) (given .counts .now) (given .targets .now)
+    (given .lows .now) (given .highs .now) (given .modules)
+
 trial-fits-requires : (t : ℕ) → trial-lts.Need-fits-requires (trial-calls t) (trial-at t) trial.Post
 trial-fits-requires t c κs = search needs
 
@@ -242,8 +252,7 @@ trial-returns t c =
     let at-fits2 = at-if1 .before in
     let at-entry = at-fits2 .before .before .before .before .before in
     let given = at-entry .args in
-    let v = movesIn (given .values .now) (given .starts .now) (given .marks .now) (given .firsts .now) (given .counts .now) (given .targets .now)
-    (given .lows .now) (given .highs .now) (given .modules) in
+    let v = trial-moves t at-entry in
     let go = walkIn (given .unsettled) v (given .allowance) in
     both-told
     (try-barred v (given .allowance) go (given .w) (given .p .0) (given .t13) (sheet (given .work .now) (given .noted)) (at-fits2 .fits2 .ensures)
@@ -270,8 +279,7 @@ trial-returns-2 t c =
     let at-fits2 = at-if1 .before in
     let at-entry = at-fits2 .before .before .before .before .before in
     let given = at-entry .args in
-    let v = movesIn (given .values .now) (given .starts .now) (given .marks .now) (given .firsts .now) (given .counts .now) (given .targets .now)
-    (given .lows .now) (given .highs .now) (given .modules) in
+    let v = trial-moves t at-entry in
     let go = walkIn (given .unsettled) v (given .allowance) in
     both-told
     (try-found v (given .allowance) go (given .w) (given .p .0) (given .t13) (sheet (given .work .now) (given .noted)) (at-fits2 .fits2 .ensures)
@@ -292,8 +300,7 @@ trial-returns-3 t c =
     let at-fits2 = at-if1 .before in
     let at-entry = at-fits2 .before .before .before .before .before in
     let given = at-entry .args in
-    let v = movesIn (given .values .now) (given .starts .now) (given .marks .now) (given .firsts .now) (given .counts .now) (given .targets .now)
-    (given .lows .now) (given .highs .now) (given .modules) in
+    let v = trial-moves t at-entry in
     let go = walkIn (given .unsettled) v (given .allowance) in
     both-told
     (try-failed v (given .allowance) go (given .w) (given .p .0) (given .t13) (sheet (given .work .now) (given .noted)) (at-fits2 .fits2 .ensures)
