@@ -41,6 +41,7 @@ module _ (c : Catalogue) (go : Selection → Searched) (p : Selection) (m i : �
   -- what trying places in turn finds, where those ahead of place i are given up and place i succeeds
   tries_found : (is : List ℕ) → Mem i is → ((j : ℕ) → Mem j (ahead is i) → TrialIs j none) → TrialIs i (some s) → (try_each c go p m is).found ≡ some s
   unfolding try_each ahead
+  tries_found [] x given found = elim x [ ]
   tries_found (j ∷ is) x given found =
       ⊎_elim now (λ e. later e (tries_found is (rest_mem x e) (λ k h. given k (rw (ne_eqb j i e) (there h))) found)) (same_or_not j i)
     where

@@ -70,6 +70,7 @@ same_or_not x y = go (eqb x y) refl
 module _ {A : Type 0} where
   pub all_mem : (f : A → Bool) {x : A} {xs : List A} → all f xs ≡ true → Mem x xs → f x ≡ true
   unfolding all
+  all_mem f {xs = []} e h = elim h [ ]
   all_mem f {xs = y ∷ ys} e (here p) = rw p (and_fst _ _ e)
   all_mem f {xs = y ∷ ys} e (there h) = all_mem f (and_snd (f y) _ e) h
 
@@ -80,6 +81,7 @@ module _ {A : Type 0} where
 
   pub mem_any : (f : A → Bool) {x : A} {xs : List A} → Mem x xs → f x ≡ true → any f xs ≡ true
   unfolding any
+  mem_any f {xs = []} h e = elim h [ ]
   mem_any f {xs = y ∷ ys} (here p) e = or_fst (any f ys) (subst (λ (z : A). f z ≡ true) p e)
   mem_any f {xs = y ∷ ys} (there h) e = or_snd (f y) (mem_any f h e)
 
@@ -94,6 +96,7 @@ module _ {A : Type 0} where
 
   pub mem_keep : (f : A → Bool) {x : A} {xs : List A} → Mem x xs → f x ≡ true → Mem x (keep f xs)
   unfolding keep
+  mem_keep f {xs = []} h e = elim h [ ]
   mem_keep f {xs = y ∷ ys} (here p) e = rw (subst (λ (z : A). f z ≡ true) p e) (here p)
   mem_keep f {xs = y ∷ ys} (there h) e = go (f y) (mem_keep f h e)
     where
@@ -126,7 +129,8 @@ module _ {A : Type 0} where
   -- where there is none, every element fails
   pub first_none : (f : A → Bool) {x : A} {xs : List A} → first_of f xs ≡ none → Mem x xs → f x ≡ false
   unfolding first_of
-  first_none f {xs = y ∷ ys} e h = go (f y) refl e h (λ p m. first_none f p m)
+  first_none f {xs = []} e h = elim h [ ]
+  first_none f {xs = y ∷ ys} e h = go (f y) refl e h (λ p m. first_none f {xs = ys} p m)
     where
       go : {x : A} (b : Bool) → f y ≡ b → cond b (some y) (first_of f ys) ≡ none → Mem x (y ∷ ys) →
           (first_of f ys ≡ none → Mem x ys → f x ≡ false) → f x ≡ false
@@ -136,6 +140,7 @@ module _ {A : Type 0} where
 
   pub mem_flat_map : {B : Type 0} (f : A → List B) {x : A} {xs : List A} {y : B} → Mem x xs → Mem y (f x) → Mem y (flat_map f xs)
   unfolding flat_map
+  mem_flat_map f {xs = []} m h = elim m [ ]
   mem_flat_map {B} f {xs = z ∷ zs} {y} (here p) h = Memᴰ.append_left _ (subst (λ (w : A). Mem y (f w)) p h)
   mem_flat_map f {xs = z ∷ zs} (there m) h = Memᴰ.append_right (f z) (mem_flat_map f m h)
 
@@ -170,6 +175,7 @@ among_mem x (y ∷ ys) e = go (or_cases (eqb x y) _ e) (λ h. among_mem x ys h)
 
 pub mem_among : {x : ℕ} {xs : List ℕ} → Mem x xs → among x xs ≡ true
 unfolding among
+mem_among {xs = []} h = elim h [ ]
 mem_among {x} {xs = y ∷ ys} (here p) = or_fst (among x ys) (eq-eqb x y p)
 mem_among {x} {xs = y ∷ ys} (there h) = or_snd (eqb x y) (mem_among h)
 
@@ -222,6 +228,7 @@ count_mem x (y ∷ ys) h = go (eqb x y) refl h (λ r. count_mem x ys r)
 
 pub mem_count : {x : ℕ} {xs : List ℕ} → Mem x xs → 0 < count_of x xs
 unfolding count_of
+mem_count {xs = []} h = elim h [ ]
 mem_count {x} {xs = y ∷ ys} (here p) = rw (eq-eqb x y p) (omega arith)
 mem_count {x} {xs = y ∷ ys} (there h) = go (eqb x y) (mem_count h)
   where
@@ -274,6 +281,7 @@ ahead_mem {x} y (z ∷ zs) h = go (eqb z y) h (λ m. ahead_mem y zs m)
 -- of two different members one stands ahead of the other
 pub one_ahead : {x y : ℕ} {xs : List ℕ} → Mem x xs → Mem y xs → x ≢ y → Mem x (ahead xs y) ⊎ Mem y (ahead xs x)
 unfolding ahead
+one_ahead {xs = []} h g n = elim h [ ]
 one_ahead {x} {y} {xs = z ∷ zs} h g n = go (same_or_not z y) (same_or_not z x) (λ p q. one_ahead p q n)
   where
     go : (z ≡ y) ⊎ (z ≢ y) → (z ≡ x) ⊎ (z ≢ x) → (Mem x zs → Mem y zs → Mem x (ahead zs y) ⊎ Mem y (ahead zs x)) →
