@@ -3,7 +3,7 @@ ghost use Rattle.std.specs.Prelude.{◌≡◌};
 ghost use Rattle.frames.specs.Digits.{digit_or, pair_at};
 
 // What stands at a place of a text: a pair of digits, the end of a line, or something that can't stand there.
-#[derive(Drop)]
+#[derive(Clone, Copy)]
 pub enum Pair {
     Byte(u8),
     LineFeed,

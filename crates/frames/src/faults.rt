@@ -7,7 +7,7 @@ ghost use Rattle.frames.specs.Faults.{line_fault_of, end_fault};
 use crate::kinds::Kind;
 
 // A number of the table of faults and the line told; number 0 is no fault.
-#[derive(Drop)]
+#[derive(Clone, Copy)]
 pub struct Fault {
     pub number: u8,
     pub line: u32,

@@ -27,7 +27,7 @@ pub const RESOLVED: u8 = 0x22;
 pub const SHEET_END: u8 = 0x24;
 
 // A kind of frame: its text, its number, the digits of its line, and where in the frame its first, second and third field stand (0: it has none).
-#[derive(Drop)]
+#[derive(Clone, Copy)]
 pub struct Kind {
     pub text: u8,
     pub kind: u8,

@@ -1,5 +1,7 @@
 // Frames: module numbers, places and versions as kinds of their own, pairs of digits, the one table of kinds, the fields of a frame, the faults that
 // every reader tells, and frames as they are written.
+#![tactic(auto)]
+
 pub mod digits;
 pub mod faults;
 pub mod fields;

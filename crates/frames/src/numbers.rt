@@ -4,19 +4,19 @@ ghost use Rattle.rules.specs.Catalogue.{is_within};
 ghost use Rattle.frames.specs.Numbers.{order_of};
 
 // A module's number, from 0, the root.
-#[derive(Drop)]
+#[derive(Clone, Copy)]
 pub struct ModuleNo(pub u16);
 
 // A version's place: its number among all versions of a catalogue, in which a module's versions stand side by side, oldest first.
-#[derive(Drop)]
+#[derive(Clone, Copy)]
 pub struct Place(pub u16);
 
 // A version: major, minor and patch as the three bytes of one number.
-#[derive(Drop)]
+#[derive(Clone, Copy)]
 pub struct Version(pub u32);
 
 // How a version stands to another.
-#[derive(Drop)]
+#[derive(Clone, Copy)]
 pub enum Order {
     Older,
     Same,

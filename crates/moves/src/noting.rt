@@ -8,7 +8,7 @@ use frames::numbers::ModuleNo;
 use frames::written;
 
 // How many lines stand in the work area, where they end, and whether one had no room.
-#[derive(Drop)]
+#[derive(Clone, Copy)]
 pub struct Noted {
     pub end: usize,
     pub lines: u16,

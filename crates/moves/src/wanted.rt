@@ -14,7 +14,7 @@ pub const NO_MODULE: u16 = 65535;
 
 // A module to choose, the number of the first need that asks for it, and the range that the needs of chosen versions leave to it; NO_MODULE and NONE
 // where nothing is wanted.
-#[derive(Drop)]
+#[derive(Clone, Copy)]
 pub struct Wanted {
     pub need: u32,
     pub low: Version,

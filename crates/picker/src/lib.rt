@@ -1,4 +1,6 @@
 // The two calls: pick answers a catalogue's text with its best selection, or with a sheet that no selection is valid; check judges such a sheet.
+#![tactic(auto)]
+
 ghost use Rattle.std.specs.Prelude.{◌≡◌, ◌≤◌, length};
 ghost use Rattle.rules.specs.Lines.{fault};
 ghost use Rattle.picker.specs.Entry.{work_least, picked, ReadOwes, PickOwes};
@@ -24,7 +26,7 @@ pub const WORK_LEAST: usize = 65536;
 pub const MOST_LINES: u16 = 480;
 
 // The answer: a number of the rules' table (0: a selection is written), the line told, and the length of the text that is written.
-#[derive(Drop)]
+#[derive(Clone, Copy)]
 pub struct Picked {
     pub number: u8,
     pub line: u32,
@@ -32,7 +34,7 @@ pub struct Picked {
 }
 
 // The checker's answer: a number of the rules' table (0: the sheet is accepted), the line told, and the text at fault: 0 neither, 1 the catalogue, 2 the sheet.
-#[derive(Drop)]
+#[derive(Clone, Copy)]
 pub struct Checked {
     pub number: u8,
     pub line: u32,

@@ -1,4 +1,6 @@
 // The calls for C: numbers and byte areas only, the answer packed into one number of 64 bits.
+#![tactic(auto)]
+
 ghost use Rattle.std.specs.Prelude.{◌≡◌};
 ghost use Rattle.picker.specs.Checking.{check_of, work_after};
 ghost use Rattle.picker_c.specs.Packed.{text_of, packed, packed_pick, packed_check, PackedOwes};

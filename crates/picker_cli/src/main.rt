@@ -1,4 +1,6 @@
 // The program: a catalogue from standard input, its answer to standard output.
+#![tactic(auto)]
+
 use libc::STDIN_FILENO;
 use picker_io::run;
 

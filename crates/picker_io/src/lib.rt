@@ -1,4 +1,6 @@
 // What the programs share: a catalogue read from a descriptor, picked for, and its answer written to standard output.
+#![tactic(auto)]
+
 pub mod answer;
 pub mod input;
 pub mod run;

@@ -1,4 +1,6 @@
 // Answers each of the files that its arguments name, under a line with the name: the bench samples and some more.
+#![tactic(auto)]
+
 use libc::STDOUT_FILENO;
 use picker_io::run;
 

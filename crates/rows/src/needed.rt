@@ -8,7 +8,7 @@ use frames::numbers::{ModuleNo, Place, Version};
 use store::{access, lookup};
 
 // A need as a need line cites it: the module and the place of the version that has it, the module that it names, and the range.
-#[derive(Drop)]
+#[derive(Clone, Copy)]
 pub struct Cited {
     pub needy: ModuleNo,
     pub place: Place,

@@ -12,7 +12,7 @@ use store::tables::one_less;
 pub const LINES: u16 = 480;
 
 // The fields of a frame of any kind: a line count, a need's number or the first line cited; the second line cited; the module resolved at.
-#[derive(Drop)]
+#[derive(Clone, Copy)]
 pub struct Fields {
     pub kind: u8,
     pub first: u16,
@@ -21,7 +21,7 @@ pub struct Fields {
 }
 
 // Where the reading stands (0 before the head, 1 in the body, 2 after the end), how many lines are due, and how many have been read.
-#[derive(Drop)]
+#[derive(Clone, Copy)]
 pub struct State {
     pub stands: u8,
     pub due: u16,

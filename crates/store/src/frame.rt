@@ -10,7 +10,7 @@ use frames::numbers::{ModuleNo, Place, Version};
 
 // The fields of a frame of any kind: a module (of a head, how many), a version or the low end of a range with whether it has a byte 255, and the
 // upper end.
-#[derive(Drop)]
+#[derive(Clone, Copy)]
 pub struct Fields {
     pub kind: u8,
     pub owner: ModuleNo,
@@ -20,7 +20,7 @@ pub struct Fields {
 }
 
 // Where the reading stands (0 before the head, 1 in the body, 2 after the end), and how much has been read.
-#[derive(Drop)]
+#[derive(Clone, Copy)]
 pub struct State {
     pub stands: u8,
     pub modules: u16,
@@ -29,7 +29,7 @@ pub struct State {
 }
 
 // The version last read, with how many needs it has so far.
-#[derive(Drop)]
+#[derive(Clone, Copy)]
 pub struct Last {
     pub place: Place,
     pub owner: ModuleNo,

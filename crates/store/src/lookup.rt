@@ -7,14 +7,14 @@ use crate::{access, tables};
 use frames::numbers::{ModuleNo, Place, Version};
 
 // Numbers side by side: the first, and how many.
-#[derive(Drop)]
+#[derive(Clone, Copy)]
 pub struct Span {
     pub first: u16,
     pub count: u16,
 }
 
 // A need: the module that it names, and the range.
-#[derive(Drop)]
+#[derive(Clone, Copy)]
 pub struct Need {
     pub target: ModuleNo,
     pub low: Version,

@@ -1,0 +1,25 @@
+-- `frames::digits::pair_at` meets its contract: the tests on the way to each answer tell what stands at the place.
+use native.Mathlib.Omega.{arith}
+use Rattle.frames.specs.declared.digits.Pair.TheVariants.{LineFeed, Wrong}
+use Rattle.frames.proofs.Pairs.{past, told, first_wrong, second_missing, second_wrong, both_right}
+use Rattle.frames.proofs.digits.pair_at.Goals as goal
+
+pub returns-then-text-at : goal.returns-then-text-at
+returns-then-text-at c = told _ _ Wrong (past c.if-text-at.true)
+
+pub returns-then-first-eq10 : goal.returns-then-first-eq10
+returns-then-first-eq10 c = told _ _ LineFeed (c.if-text-at.false, c.if-first-eq10.true)
+
+pub returns-then-high-ge16 : goal.returns-then-high-ge16
+returns-then-high-ge16 c = first_wrong _ _ c.digit-high.ensures c.if-high-ge16.true c.if-text-at.false c.if-first-eq10.false
+
+pub returns-then-text-next : goal.returns-then-text-next
+returns-then-text-next c = second_missing _ _ c.digit-high.ensures c.if-high-ge16.false (omega arith)
+
+pub returns-then-low-ge16 : goal.returns-then-low-ge16
+returns-then-low-ge16 c =
+    second_wrong _ _ c.digit-high.ensures c.digit-low.ensures c.if-high-ge16.false (omega arith) c.if-low-ge16.true
+
+pub returns : goal.returns
+returns c =
+    both_right _ _ c.digit-high.ensures c.digit-low.ensures c.if-high-ge16.false (omega arith) c.if-low-ge16.false
