@@ -115,6 +115,7 @@ module _ (target low high : ℕ → ℕ) (chosen : List ℕ) where
   -- nothing lower is passed by
   lowest : (xs : List ℕ) (w : Wanted) {k : ℕ} → Mem k xs → Unset (target k) → (fold_over lower w xs).owner.0 ≤ target k
   unfolding fold_over
+  lowest [] w x'' u = elim x'' [ ]
   lowest (x ∷ xs) w {k} (here p) u =
       let one : (lower x w).owner.0 ≤ target x = turn_passes (turn x w) (rw p at u) in
       let rest = falls xs (lower x w) in

@@ -1,0 +1,12 @@
+-- The scans from module `k` on find what all find. Assumes nothing.
+use Rattle.moves.proofs.Scans.{over_hit, over_passed, over_done}
+use Rattle.moves.proofs.scan.barring.Goals as goal
+
+pub returns-then-hit : goal.returns-then-hit
+returns-then-hit c = over_hit _ c.loop-k.invariant c.scan_module-hit.ensures c.loop-k-test.true c.if-hit.true
+
+pub loop-k-preserved : goal.loop-k-preserved
+loop-k-preserved c = over_passed _ c.loop-k.invariant c.scan_module-hit.ensures c.loop-k-test.true c.if-hit.false
+
+pub returns : goal.returns
+returns c = over_done _ c.loop-k.invariant c.loop-k-test.false

@@ -1,0 +1,9 @@
+-- `moves::wanted::wanted_of_version` meets its contract. The loop's invariant: going on from here gives what the whole run of needs gives.
+use Rattle.moves.proofs.Folds.{one_done, all_done}
+use Rattle.moves.proofs.wanted.wanted_of_version.Goals as goal
+
+pub loop-k-preserved : goal.loop-k-preserved
+loop-k-preserved c = one_done _ _ _ _ c.loop-k.invariant _ c.loop-k-test.true c.better-w.ensures
+
+pub returns : goal.returns
+returns c = all_done _ _ _ _ c.loop-k.invariant c.loop-k-test.false
