@@ -129,6 +129,10 @@ pub record Got (bytes : List ℕ) (s : State) (t : Tables) (row : Kind) (f : Fie
   pub last_is : z ≡ last_had t s
   pub count_is : n ≡ get_or t.counts f.owner.0 0
 
+pub all_got : (t : Tables) {bytes : List ℕ} {s : State} {row : Kind} {f : Fields} {z : Last} {n : ℕ} → row ≡ row_for catalogues (byte_at bytes 0) →
+    f ≡ fields_at row.first row.second row.third bytes → z ≡ last_had t s → n ≡ get_or t.counts f.owner.0 0 → Got bytes s t row f z n
+all_got t a b e d = record { row_is = a; fields_are = b; last_is = e; count_is = d }
+
 -- so the fault that the code finds, its state and its tables are those that are spoken of above
 module _ {bytes : List ℕ} {s : State} {t : Tables} {row : Kind} {f : Fields} {z : Last} {n : ℕ} (g : Got bytes s t row f z n) where
   fields_had_lem : f ≡ fields_had bytes

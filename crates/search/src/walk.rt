@@ -12,7 +12,7 @@ use store::limits::{MODULES, NEEDS, VERSIONS};
 use store::{lookup, tables};
 
 // How a search ends: whether it found a selection, the record of choices, and what is noted in the work area.
-#[derive(Clone, Copy)]
+#[derive(Drop)]
 pub struct Found {
     pub choices: Choices,
     pub noted: Noted,
