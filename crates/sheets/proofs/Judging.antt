@@ -21,7 +21,7 @@ use Rattle.rows.proofs.Words.{words_size}
 use Rattle.rows.proofs.Refuting.{refutes_law}
 use Rattle.sheets.specs.declared.frame.Fields.{Fields}
 use Rattle.sheets.specs.declared.frame.State.{State}
-use Rattle.sheets.specs.Frame.{state_of, fields_in, after}
+use Rattle.sheets.specs.Frame.{state_of, fields_in}
 use Rattle.sheets.specs.Reading.{Lent, lent_by, kept_line, Held, held, start, reader_in, fault_in, work_bytes, Given}
 use Rattle.sheets.proofs.Faults.{fault_law, after_law}
 use Rattle.sheets.proofs.Kept.{Kept, kept_start, kept_step}

@@ -47,6 +47,11 @@ pub record Got (bytes : List ℕ) (size total : ℕ) (s : State) (modules needs 
   pub found_is : found ≡ frame_fault s modules needs f
   pub number_is : number ≡ line_fault_of size total row found
 
+pub all_got : {bytes : List ℕ} {size total : ℕ} {s : State} {modules needs : ℕ} {row : Kind} {f : Fields} {found number : ℕ} →
+    row ≡ row_for sheets (byte_at bytes 0) → f ≡ fields_at row.first row.second row.third bytes → found ≡ frame_fault s modules needs f →
+    number ≡ line_fault_of size total row found → Got bytes size total s modules needs row f found number
+all_got a b e d = record { row_is = a; fields_are = b; found_is = e; number_is = d }
+
 -- of a line that fits its kind the fields are the frame's
 fields_law : {bytes frame : List ℕ} {size total : ℕ} {s : State} {modules needs : ℕ} {row : Kind} {f : Fields} {found number : ℕ} →
     Got bytes size total s modules needs row f found number → Kept sheets bytes frame → f ≡ fields_in frame

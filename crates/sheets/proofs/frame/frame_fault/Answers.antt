@@ -1,5 +1,4 @@
 -- Each way out is the case of its kind. Assumes nothing.
-use borrow.Author.Rules.{rules}
 use borrow.Author.Tests.{eq-eqb, ne_eqb}
 use Rattle.sheets.specs.Frame.{frame_fault}
 use Rattle.sheets.proofs.frame.frame_fault.Goals as goal

@@ -1,5 +1,4 @@
 -- Each way out is the case of its kind. Assumes nothing.
-use borrow.Author.Rules.{rules}
 use borrow.Author.Tests.{eq-eqb, ne_eqb}
 use Rattle.sheets.specs.Reading.{kept_line}
 use Rattle.sheets.proofs.reading.keep_line.Goals as goal

@@ -1,16 +1,10 @@
 -- What holds at each turn of the loops of `sheets::reading::read_lines`.
-use mathlib.Core.Path.{◌≡◌, refl, sym, ◌∙◌, subst}
-use mathlib.Core.List.{List}
-use Prim.Native.Nat.{ℕ, ◌+◌, ◌*◌, ◌-◌, ◌%◌, ◌≤◌, ◌<◌}
-use native.Mathlib.Omega.{arith}
+use mathlib.Core.Path.{◌≡◌}
+use Prim.Native.Nat.{◌-◌}
 use lib.ListN.{length}
-use borrow.Author.Rules.{rules}
-use Rattle.frames.specs.Digits.{pair_at}
-use Rattle.frames.specs.declared.digits.Pair.TheVariants.{Byte, LineFeed}
-use Rattle.frames.proofs.Lines.{byte_stands}
-use Rattle.frames.proofs.InLine.{InLine, line_start, line_byte, line_feed_lem, line_size}
-use Rattle.sheets.specs.Reading.{Lent, lent}
-use Rattle.sheets.proofs.Steps.{AtLine, Got, Owed, at_start, end_stops, wrong_stops, line_stops, line_kept}
+use Rattle.frames.proofs.InLine.{InLine}
+use Rattle.sheets.specs.Reading.{lent}
+use Rattle.sheets.proofs.Steps.{AtLine}
 use Rattle.sheets.proofs.reading.read_lines.Given as goal
 
 -- THE INVARIANTS: a variable's value where the loop begins has a small 0

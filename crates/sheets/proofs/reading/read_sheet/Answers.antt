@@ -1,5 +1,4 @@
 -- A text that is too long is not read; any other is read line by line, and then judged. Assumes nothing.
-use borrow.Author.Rules.{rules}
 use Rattle.sheets.proofs.Finished.{too_long, sheet_judged}
 use Rattle.sheets.proofs.reading.read_sheet.Goals as goal
 
