@@ -15,7 +15,7 @@ use Rattle.rules.specs.Catalogue.{Catalogue, WellFormed, Carried, limits}
 use Rattle.rules.specs.Catalogue.{text_fault, catalogue_of}
 use Rattle.rules.specs.Selection.{Selection}
 use Rattle.rules.specs.Search.{best}
-use Rattle.rules.specs.Sheet.{Entry, refutes, is_refuting, sheet_fault, sheet_text}
+use Rattle.rules.specs.Sheet.{Entry, is_refuting, sheet_fault, sheet_text}
 use Rattle.rules.proofs.Lists.{cond_true}
 use Rattle.rules.proofs.Reading.{limits_carried}
 use Rattle.rules.proofs.Theorems.{reads_well_formed, accepts_exactly, sheets_tell, picks_valid}
