@@ -1,2 +1,3 @@
--- What the programs write.
+-- What the programs read and write.
 pub mod Answer
+pub mod Input

@@ -1,4 +1,4 @@
-// What the programs share: a catalogue read from a descriptor, picked for, and its answer written to standard output.
+// What the programs share: a catalogue read from a reader, picked for, and its answer written to standard output.
 #![tactic(auto)]
 
 pub mod answer;

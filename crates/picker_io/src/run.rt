@@ -1,15 +1,21 @@
-// One run: a catalogue read from a descriptor, picked for with the largest allowance, and its answer written to standard output.
+// One run: a catalogue read to its end, picked for with the largest allowance, and its answer written to standard output.
 use crate::{answer, input};
-use libc::STDOUT_FILENO;
 use picker::{MOST_LINES, SELECTION_LEAST, SHEET_LEAST, WORK_LEAST};
+use std::io;
+use std::io::{Eprint, Print, Read};
 
-// Writes the answer to the catalogue that the descriptor hands out. Where it can't be read, the name and the reason go to standard error, and
+// Says on standard error what failed and why. That this can't be said can't be told anywhere.
+pub fn fail<E: Eprint>(rt: &E, what: &str, error: io::Error) {
+    let _ = eprintln!(rt; "{what}: {error}");
+}
+
+// Writes the answer to the catalogue that the reader hands out. Where it can't be read, the name and the reason go to standard error, and
 // nothing is written to standard output.
-pub fn run(fd: i32, name: &[u8]) {
+pub fn run<P: Print + Eprint, R: Read>(rt: &P, from: &mut R, name: &str) {
     let mut text = input::room();
-    let came = input::read_all(fd, &mut text);
-    if came.failed {
-        os::fail(name);
+    let came = input::read_all(from, &mut text);
+    if let Some(error) = came.failure {
+        fail(rt, name, error);
         return;
     }
     let size = came.size;
@@ -24,10 +30,8 @@ pub fn run(fd: i32, name: &[u8]) {
         MOST_LINES,
     );
     let told = answer::told(p.number, p.line);
-    if !io::write_all(
-        STDOUT_FILENO,
-        answer::text_of(p.number, p.size, &selection, &sheet, &told),
-    ) {
-        os::fail(b"standard output");
+    let written = rt.write_all(answer::text_of(p.number, p.size, &selection, &sheet, &told));
+    if let Err(error) = written {
+        fail(rt, "standard output", error);
     }
 }

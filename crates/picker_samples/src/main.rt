@@ -1,29 +1,36 @@
 // Answers each of the files that its arguments name, under a line with the name: the bench samples and some more.
 #![tactic(auto)]
 
-use libc::STDOUT_FILENO;
 use picker_io::run;
+use std::env::{Env, FillError};
+use std::{fs, io, str};
 
-// The file that argument i names, and its answer.
-fn answer(i: usize) {
-    let mut path = io::buffer();
-    let length = os::arg(i, &mut path);
-    let fd = os::open_read(&path[..length]);
-    if fd < 0 {
-        os::fail(&path[..length]);
-        return;
+// The longest name of a file.
+const PATH_MAX: usize = 4096;
+
+// A file's name, and its answer.
+fn answer(rt: &HostRuntime, path: &str) -> io::Result<()> {
+    match fs::open(rt, path) {
+        Ok(mut file) => {
+            println!(rt; "{path}")?;
+            run::run(rt, &mut file, path);
+        }
+        Err(error) => run::fail(rt, path, error),
     }
-    io::write_all(STDOUT_FILENO, &path[..length]);
-    io::write_all(STDOUT_FILENO, b"\n");
-    run::run(fd, &path[..length]);
-    libc::close(fd);
+    Ok(())
 }
 
-fn main() {
-    let count = os::arg_count();
-    let mut i = 1;
-    while i < count {
-        answer(i);
-        i += 1;
+fn main(rt: HostRuntime) -> io::Result<()> {
+    for i in 1..usize::MAX {
+        let mut path = [0u8; PATH_MAX];
+        match rt.arg(i, &mut path) {
+            Ok(length) => match str::from_utf8(&path[..length]) {
+                Ok(path) => answer(&rt, path)?,
+                Err(_) => eprintln!(rt; "argument {i} is no text")?,
+            },
+            Err(FillError::TooLong) => eprintln!(rt; "argument {i} is too long")?,
+            Err(FillError::NotPresent) => break,
+        }
     }
+    Ok(())
 }
