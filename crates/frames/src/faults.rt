@@ -6,6 +6,9 @@ ghost use Rattle.frames.specs.Faults.{line_fault_of, end_fault};
 
 use crate::kinds::Kind;
 
+// The least bytes of a line: a kind and a check.
+const LEAST: usize = 2;
+
 // A number of the table of faults and the line told; number 0 is no fault.
 #[derive(Clone, Copy)]
 pub struct Fault {
@@ -28,7 +31,7 @@ pub fn line_fault(bytes: usize, sum: u32, row: Kind, frame: u8) -> u8
     requires { bytes ≤ limits.bytes }
     ensures { result ≡ line_fault_of bytes sum row frame }
 {
-    if bytes < 2 {
+    if bytes < LEAST {
         return 2;
     }
     if sum != 0 {

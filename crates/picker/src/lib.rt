@@ -97,7 +97,8 @@ fn pick_in(
         return answer(SELECTED, 0, size as u32);
     }
     let noted = r.noted;
-    if noted.over {
+    let over = noted.over;
+    if over {
         return answer(NO_SHEET, 0, 0);
     }
     let size = sheet::write_sheet(sheet, work, noted.lines, noted.end);

@@ -29,31 +29,31 @@ returns-then-r c =
     let is_known = known c.requires c.read-read.ensures c.told-told.ensures c.if-told-ne0.false in
     selected is_known c.find-r.ensures.told c.if-r.true c.write_selection-size.ensures.size c.write_selection-size.ensures.area c.answer-then-r.ensures
 
-pub returns-then-noted : goal.returns-then-noted
-returns-then-noted c =
+pub returns-then-over : goal.returns-then-over
+returns-then-over c =
     let is_known = known c.requires c.read-read.ensures c.told-told.ensures c.if-told-ne0.false in
-    unsheeted is_known c.find-r.ensures.told c.if-r.false c.if-noted.true c.answer-then-noted.ensures
+    unsheeted is_known c.find-r.ensures.told c.if-r.false c.if-over.true c.answer-then-over.ensures
 
 pub write_sheet-size-requires-clause-has : goal.write_sheet-size-requires-clause-has
 write_sheet-size-requires-clause-has c =
     let is_known = known c.requires c.read-read.ensures c.told-told.ensures c.if-told-ne0.false in
-    let short = lines_fit is_known c.find-r.ensures.told c.if-r.false c.find-r.ensures.area c.if-noted.false in
+    let short = lines_fit is_known c.find-r.ensures.told c.if-r.false c.find-r.ensures.area c.if-over.false in
     omega (arith, short, is_known.room.work_room)
 
 pub write_sheet-size-requires-clause-room : goal.write_sheet-size-requires-clause-room
 write_sheet-size-requires-clause-room c =
     let is_known = known c.requires c.read-read.ensures c.told-told.ensures c.if-told-ne0.false in
-    let short = lines_fit is_known c.find-r.ensures.told c.if-r.false c.find-r.ensures.area c.if-noted.false in
+    let short = lines_fit is_known c.find-r.ensures.told c.if-r.false c.find-r.ensures.area c.if-over.false in
     omega (arith, short, is_known.room.sheet_room)
 
 pub overflow_cast-size-2 : goal.overflow_cast-size-2
 overflow_cast-size-2 c =
     let is_known = known c.requires c.read-read.ensures c.told-told.ensures c.if-told-ne0.false in
-    let short = sheet_fits is_known c.find-r.ensures.told c.if-r.false c.find-r.ensures.area c.if-noted.false in
+    let short = sheet_fits is_known c.find-r.ensures.told c.if-r.false c.find-r.ensures.area c.if-over.false in
     omega (arith, c.write_sheet-size.ensures.size, short)
 
 pub returns : goal.returns
 returns c =
     let is_known = known c.requires c.read-read.ensures c.told-told.ensures c.if-told-ne0.false in
-    sheeted is_known c.find-r.ensures.told c.if-r.false c.find-r.ensures.area c.if-noted.false c.write_sheet-size.ensures.size
+    sheeted is_known c.find-r.ensures.told c.if-r.false c.find-r.ensures.area c.if-over.false c.write_sheet-size.ensures.size
     c.write_sheet-size.ensures.area c.answer-2.ensures
