@@ -3,15 +3,15 @@
 use std::path::Path;
 
 fn main() {
-    let folder = Path::new(env!("CARGO_MANIFEST_DIR")).join("../../target/staticlib");
+    let folder = Path::new(env!("CARGO_MANIFEST_DIR")).join("../../crates/picker_c/out");
     let archive = folder.join("libpicker_c.a");
     println!("cargo::rerun-if-changed={}", archive.display());
     if !archive.is_file() {
         println!(
-            "cargo::error=The archive of the proved calls, target/staticlib/libpicker_c.a, is missing."
+            "cargo::error=The archive of the proved calls, crates/picker_c/out/libpicker_c.a, is missing."
         );
         println!(
-            "cargo::error=Make it with `rt staticlib picker_c` in the project's root, and try again."
+            "cargo::error=Make it with `rt lib` in crates/picker_c, and try again."
         );
         return;
     }

@@ -33,6 +33,7 @@ pub struct Lines {
 }
 
 // Lines of digits, a frame a line. The digit loop is left at the first character that can't stand, and the reading at the first faulty line.
+#[inline(never)]
 pub fn read_lines(text: &[u8]) -> Lines
     requires { length text.now ≤ limits.bytes }
     ensures { LinesRead text.now result }
@@ -147,6 +148,7 @@ fn nothing_read(number: u8) -> Lines
 }
 
 // A catalogue's text read as far as its first faulty line, and not at all where it is too long: `told` tells the fault.
+#[inline(never)]
 pub fn read(text: &[u8]) -> Lines
     ensures { CatalogueRead text.now result }
 {

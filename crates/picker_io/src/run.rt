@@ -1,12 +1,26 @@
 // One run: a catalogue read to its end, picked for with the largest allowance, and its answer written to standard output.
 use crate::{answer, input};
 use picker::{MOST_LINES, SELECTION_LEAST, SHEET_LEAST, WORK_LEAST};
+use std::fmt::InlineText;
 use std::io;
 use std::io::{Eprint, Print, Read};
 
+// Room for the words of a reason.
+const REASON: usize = 128;
+
+// The system's words for why a call failed, without the number behind them.
+fn words_of(reason: &str) -> &str {
+    let Some((words, _)) = reason.split_once(" (os error ") else {
+        return reason;
+    };
+    words
+}
+
 // Says on standard error what failed and why. That this can't be said can't be told anywhere.
 pub fn fail<E: Eprint>(rt: &E, what: &str, error: io::Error) {
-    let _ = eprintln!(rt; "{what}: {error}");
+    let reason = InlineText::<REASON>::of(error);
+    let words = words_of(reason.as_str());
+    let _ = eprintln!(rt; "{what}: {words}");
 }
 
 // Writes the answer to the catalogue that the reader hands out. Where it can't be read, the name and the reason go to standard error, and

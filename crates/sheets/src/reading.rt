@@ -126,6 +126,7 @@ fn read_lines<'a>(
 }
 
 // A sheet's text judged over a catalogue, by the catalogue's tables and how many modules and needs it has: the number and line of its refusal, or 0 and 0.
+#[inline(never)]
 pub fn read_sheet<'a>(
     text: &'a [u8],
     values: &'a [u32],

@@ -29,7 +29,7 @@ pub fn write() {
 
 const HEAD: &str = "# Benchmarks
 
-Written by `cargo run --release -p bench` in host/. The proved picker (Rattle, `rt staticlib picker_c`) and Rust (--release) do the same work on the same
+Written by `cargo run --release -p bench` in host/. The proved picker (Rattle, `rt lib` in crates/picker_c) and Rust (--release) do the same work on the same
 texts in the same run: the second picker's reader and checker, and a pick by that reader and a plain walk that is written straightforwardly, over arrays
 (host/bench/src/plain.rs). A ratio is the proved picker's figure over Rust's; the aim is 1.5 at most. The second picker's own pick stands beside them: its
 walk first turns all needs into sets of bits, and then hardly looks at a need.

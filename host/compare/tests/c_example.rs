@@ -14,7 +14,7 @@ fn build() -> PathBuf {
         .args([
             project("include"),
             project("host/c/example.c"),
-            project("target/staticlib/libpicker_c.a"),
+            project("crates/picker_c/out/libpicker_c.a"),
         ])
         .arg("-o")
         .arg(&example)

@@ -38,10 +38,10 @@ fn sample(file: &str) -> Sample {
 
 /// The proved program, which must have been built.
 pub fn program() -> Command {
-    let path = project("target/bin/picker_cli");
+    let path = project("crates/picker_cli/out/picker_cli");
     assert!(
         path.is_file(),
-        "the program is missing: run `rt check picker_cli` in the project's root"
+        "the program is missing: run `rt run </dev/null` in crates/picker_cli"
     );
     Command::new(path)
 }
