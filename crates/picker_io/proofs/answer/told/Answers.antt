@@ -1,6 +1,5 @@
 -- `picker_io::answer::told` meets its contract: the frame's line fills the array.
 use mathlib.Core.Path.{◌∙◌}
-use borrow.Author.Rules.{rules}
 use Rattle.rules.proofs.Written.{frame_length}
 use Rattle.picker_io.proofs.Stored.{whole_stored}
 use Rattle.picker_io.proofs.answer.told.Goals as goal
