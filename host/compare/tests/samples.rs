@@ -75,6 +75,22 @@ fn the_samples_program_is_held_to_them() {
 }
 
 #[test]
+fn they_are_the_programs_data() {
+    let names = |folder: &str| {
+        let files = fs::read_dir(project(folder)).unwrap();
+        let mut names: Vec<_> = files.map(|file| file.unwrap().file_name()).collect();
+        names.sort();
+        names
+    };
+    let (copies, data) = ("samples", "crates/picker_samples/data");
+    assert_eq!(names(copies), names(data));
+    for name in names(data) {
+        let read = |folder| fs::read(project(folder).join(&name)).unwrap();
+        assert_eq!(read(copies), read(data), "{}", name.display());
+    }
+}
+
+#[test]
 fn none_is_left_out() {
     let files = fs::read_dir(project("samples")).unwrap();
     let is_catalogue = |name: &String| name.ends_with(".catalogue");
