@@ -1,4 +1,4 @@
--- A text read whole: what is owed of it (lines-owed), also where it is too long (too_long); and where no fault is told the tables hold the catalogue
+-- A text read whole: what is owed of it (`lines_owed`), also where it is too long (`too_long`); and where no fault is told the tables hold the catalogue
 -- that the rules read (read_whole). Assumes nothing.
 use mathlib.Core.Path.{◌≡◌, refl, sym, ◌∙◌, ap, subst}
 use mathlib.Core.List.{List}

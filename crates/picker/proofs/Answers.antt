@@ -60,13 +60,13 @@ refused {text} {l = l} read is-fault bad e =
 -- READ: what is known of a pick whose text reads well
 pub record Known (text selection sheet work : List ℕ) (allowance : ℕ) (l : Lines) : Type 0 where
   pub room : HasRoom selection sheet work allowance
-  pub is_fine_lem : text_fault limits text ≡ fine
+  pub fine_text : text_fault limits text ≡ fine
   pub well : ReadWell l (catalogue_of limits text)
 
 pub known : {text s h w : List ℕ} {a : ℕ} {l : Lines} {x : Told.Fault} → HasRoom s h w a → CatalogueRead text l → x ≡ told_of l → x.number ≡ 0 →
     Known text s h w a l
 known {text} {l = l} room read is-fault good =
-    record { room = room; is_fine_lem = read_fine text l read is-fault good; well = read_well text l read is-fault good }
+    record { room = room; fine_text = read_fine text l read is-fault good; well = read_well text l read is-fault good }
 
 -- THE TEXTS as they are written: of a selection, from the tables and the choices, and of a sheet, from what is noted
 abbrev pub text_of : Lines → (chosen : List ℕ) → List ℕ
@@ -80,7 +80,7 @@ module _ {text s h w : List ℕ} {a : ℕ} {l : Lines} (k : Known text s h w a l
   c = catalogue_of limits text
 
   outcome_read : {r : Picked} {u v : List ℕ} → OutcomeOwes c (best c) s h a r u v → ReadOwes text s h a r u v
-  outcome_read o = record { refused = λ q. absurd (not_both (ap is_fine k.is_fine_lem) q); read = λ q. o }
+  outcome_read o = record { refused = λ q. absurd (not_both (ap is_fine k.fine_text) q); read = λ q. o }
 
   pub few_modules : l.state.modules ≤ 32
   few_modules = omega (arith, k.well.modules, k.well.carried.modules)
@@ -138,9 +138,9 @@ module _ {text s h w : List ℕ} {a : ℕ} {l : Lines} (k : Known text s h w a l
           is_ten = ap (λ (x : Picked). x.number) p
 
       -- A SHEET is written
-      module _ {area : List ℕ} (is-area : area ≡ (search_of (tables_of l) l.state.modules a w).sheet.area) (Has-All : f.noted.over ≡ false) where
+      module _ {area : List ℕ} (is-area : area ≡ (search_of (tables_of l) l.state.modules a w).sheet.area) (has_all : f.noted.over ≡ false) where
         left : SheetLeft c a f area
-        left = sheet_left k.well a w is-told none_best k.room.few_lines k.room.work_room is-area Has-All
+        left = sheet_left k.well a w is-told none_best k.room.few_lines k.room.work_room is-area has_all
 
         -- its lines' text, and with head and end its whole text, has room in the areas
         pub lines_fit : f.noted.end ≤ 7200

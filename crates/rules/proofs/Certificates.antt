@@ -1,5 +1,5 @@
--- Certified selections: they are what the search finds (certified-found), every selected module stands in the choice order once (order-whole), and
--- the last lemma: they stand ahead of every other valid selection (certified-best). Assumes nothing.
+-- Certified selections: they are what the search finds (`certified_found`), every selected module stands in the choice order once (`order_whole`), and
+-- the last lemma: they stand ahead of every other valid selection (`certified_best`). Assumes nothing.
 use mathlib.Core.Path.{◌≡◌, refl, sym, ◌∙◌, ap, subst, subst₂}
 use mathlib.Core.Logic.{⊎_elim, ◌≢◌}
 use mathlib.Core.Bool.{Bool, true, cond}

@@ -1,5 +1,5 @@
--- Incompatibilities: every line of a fitting sheet is true of every valid selection (lines-hold), so a refuting sheet means that there is none
--- (refuting-none, the last lemma). Assumes nothing.
+-- Incompatibilities: every line of a fitting sheet is true of every valid selection (`lines_hold`), so a refuting sheet means that there is none
+-- (`refuting_none`, the last lemma). Assumes nothing.
 use mathlib.Core.Path.{◌≡◌, refl, sym, ◌∙◌, ap, subst}
 use mathlib.Core.Logic.{◌⊎◌, inl, inr, ⊎_elim, ◌≢◌}
 use mathlib.Core.Bool.{true, false, ◌&&◌, ◌||◌, not}

@@ -116,7 +116,7 @@ empty_sound l m h =
     none : 0 ≤ l.of_module
     none = omega arith
 
--- "hasVersion" tells whether there is one
+-- `has_version` tells whether there is one
 has_some : (vs : List Version) → has_version vs ≡ true → 0 < length vs
 has_some [] h = absurd (false≢true h)
 has_some (v ∷ vs) h = omega arith

@@ -1,4 +1,4 @@
--- The backtracking search over any list of tries. The last lemma, search-outcome: where it finds none no valid selection keeps the choices it began
+-- The backtracking search over any list of tries. The last lemma, `search_outcome`: where it finds none no valid selection keeps the choices it began
 -- with, and what it finds is valid, keeps them, and is certified. Assumes nothing.
 use mathlib.Core.Path.{◌≡◌, refl, sym, ◌∙◌, ap, subst}
 use mathlib.Core.Logic.{◌⊎◌, inl, inr, ⊎_elim, ◌≢◌}

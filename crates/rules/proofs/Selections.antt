@@ -1,4 +1,4 @@
--- Selections: what the tests of specs/Selection.antt say. The last lemmas say that isValid passes exactly where the record Valid holds. Assumes nothing.
+-- Selections: what the tests of specs/Selection.antt say. The last lemmas say that `is_valid` passes exactly where the record Valid holds. Assumes nothing.
 use mathlib.Core.Path.{◌≡◌, refl, sym, ap, subst}
 use mathlib.Core.Logic.{◌⊎◌, inl, inr, ⊎_elim, ◌≢◌}
 use mathlib.Core.Bool.{true, ◌&&◌, ◌||◌, false≢true}

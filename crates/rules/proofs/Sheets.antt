@@ -1,4 +1,4 @@
--- The sheet of a failing search: its lines fit, its last line blocks what the search began with, and it has 2W + 1 lines (search-derives). The last
+-- The sheet of a failing search: its lines fit, its last line blocks what the search began with, and it has 2W + 1 lines (`search_derives`). The last
 -- lemma says that what blocks the root alone refutes. Assumes nothing.
 use mathlib.Core.Path.{◌≡◌, refl, sym, ◌∙◌, ap, subst, subst₂}
 use mathlib.Core.Logic.{◌⊎◌, inl, inr, ⊎_elim, ◌≢◌}

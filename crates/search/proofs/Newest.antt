@@ -1,4 +1,4 @@
--- The tables give a module's versions newest first as a falling run of places (newest-run). Assumes nothing.
+-- The tables give a module's versions newest first as a falling run of places (`newest_run`). Assumes nothing.
 use mathlib.Core.Path.{◌≡◌, refl, sym, ◌∙◌, ap}
 use mathlib.Core.Bool.{Bool, true, false, cond}
 use mathlib.Core.List.{List, [], ◌∷◌, ◌++◌, append-nil}

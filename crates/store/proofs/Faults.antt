@@ -84,7 +84,7 @@ checks_law : {a b d x y z : Bool} → a ≡ x → b ≡ y → d ≡ z → checks
 unfolding checks
 checks_law p q r = rw (p, q, r)
 
--- "hasVersion" and its negation as tests of the number of versions
+-- `has_version` and its negation as tests of the number of versions
 has_law : (vs : List Version) → not (eqb (length vs) 0) ≡ has_version vs
 has_law [] = refl
 has_law (v ∷ vs) = rw (eqb-suc-zero (length vs))
