@@ -1,4 +1,4 @@
--- What holds at each turn of the loops of `catalogue::reading::read_lines`.
+-- At each turn of the loops of `catalogue::reading::read_lines`: nothing is at fault, and what is known inside a line, or at the start of one, holds.
 use mathlib.Core.Path.{◌≡◌}
 use Prim.Native.Nat.{◌-◌}
 use lib.ListN.{length}
@@ -7,7 +7,6 @@ use Rattle.catalogue.specs.Reading.{tables_from}
 use Rattle.catalogue.proofs.Steps.{AtLine}
 use Rattle.catalogue.proofs.reading.read_lines.Given as goal
 
--- THE INVARIANTS: a variable's value where the loop begins has a small 0
 abbrev pub invariant-digits : goal.invariant-digits
 invariant-digits l = (l.number ≡ 0) × InLine l.text l.initial.at l.at l.bytes_read l.bytes l.sum
 

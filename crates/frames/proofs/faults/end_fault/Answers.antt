@@ -12,7 +12,7 @@ pub returns-then-not-ended : goal.returns-then-not-ended
 unfolding end_fault
 returns-then-not-ended c =
     let given = c.args in
-    rw (eq-eqb given.number 0 c.if-number-ne0.false, not-true given.ended c.if-not-ended.true-raw)
+    rw (eq-eqb given.number 0 c.if-number-ne0.false, c.if-not-ended.true)
 
 pub returns-then-last-ne0 : goal.returns-then-last-ne0
 unfolding end_fault
@@ -20,7 +20,7 @@ returns-then-last-ne0 c =
     let given = c.args in
     rw (
       eq-eqb given.number 0 c.if-number-ne0.false,
-      not-false given.ended c.if-not-ended.false-raw,
+      c.if-not-ended.false,
       ne_eqb given.last 0 c.if-last-ne0.true,
     ) (ap (told given.last) c.line_before.ensures)
 
@@ -30,6 +30,6 @@ returns c =
     let given = c.args in
     rw (
       eq-eqb given.number 0 c.if-number-ne0.false,
-      not-false given.ended c.if-not-ended.false-raw,
+      c.if-not-ended.false,
       eq-eqb given.last 0 c.if-last-ne0.false,
     )

@@ -1,4 +1,4 @@
--- `frames::kinds::row` meets its contract: looking in the rows from `i` on finds what looking in all finds. The rows are the rules', by computation.
+-- `frames::kinds::row` meets its contract: the row at a place is the one looked for, or it is passed by. The rows are the rules', by computation.
 use mathlib.Core.Path.{◌≡◌, sym, ◌∙◌, ap}
 use mathlib.Core.Bool.{true, false, ◌&&◌, cond}
 use mathlib.Core.List.{List, []}

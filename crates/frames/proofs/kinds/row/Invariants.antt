@@ -1,4 +1,4 @@
--- What holds at each turn of the loops of `frames::kinds::row`.
+-- At each turn of the loop of `frames::kinds::row`: looking in the rows from `i` on finds what looking in all finds.
 use mathlib.Core.Path.{◌≡◌}
 use mathlib.Core.List.{List}
 use Prim.Native.Nat.{ℕ, ◌-◌, ◌≤◌}

@@ -1,4 +1,4 @@
--- `frames::written::write_frame` meets its contract. The loop's invariant: the first `i` bytes are written, up to `end`, and summed.
+-- `frames::written::write_frame` meets its contract.
 use Rattle.frames.proofs.Areas.{nothing_yet, one_more, finished}
 use Rattle.frames.proofs.written.write_frame.Goals as goal
 

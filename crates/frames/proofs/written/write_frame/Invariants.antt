@@ -1,4 +1,4 @@
--- What holds at each turn of the loop of `frames::written::write_frame`.
+-- At each turn of the loop of `frames::written::write_frame`: the first `i` bytes are written, up to `end`, and summed.
 use Prim.Native.Nat.{◌-◌}
 use lib.ListN.{length}
 use Rattle.frames.proofs.Areas.{Written}

@@ -4,12 +4,8 @@ use Rattle.moves.specs.Noting.{Sheet, sheet}
 use Rattle.moves.proofs.NotedLines.{over_stays}
 use Rattle.moves.proofs.fitting.cite_bar.Goals as goal
 
-pub returns-then-noted-clause-told : goal.returns-then-noted-clause-told
-returns-then-noted-clause-told c = let given = c.args in
+pub returns-then-noted : goal.returns-then-noted
+returns-then-noted c =
+    let given = c.args in
     let stays = sym (over_stays given.allowance (sheet given.work.now given.noted) _ c.if-noted.true) in
-    ap (λ (s : Sheet). s.noted) stays
-
-pub returns-then-noted-clause-area : goal.returns-then-noted-clause-area
-returns-then-noted-clause-area c = let given = c.args in
-    let stays = sym (over_stays given.allowance (sheet given.work.now given.noted) _ c.if-noted.true) in
-    ap (λ (s : Sheet). s.area) stays
+    record { told = ap (λ (s : Sheet). s.noted) stays; area = ap (λ (s : Sheet). s.area) stays }

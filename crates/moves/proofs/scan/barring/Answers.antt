@@ -1,4 +1,4 @@
--- The scans from module `k` on find what all find. Assumes nothing.
+-- `moves::scan::barring` meets its contract. Assumes nothing.
 use Rattle.moves.proofs.Scans.{over_hit, over_passed, over_done}
 use Rattle.moves.proofs.scan.barring.Goals as goal
 

@@ -1,4 +1,4 @@
--- What holds at each turn of the loop of `moves::scan::barring`.
+-- At each turn of the loop of `moves::scan::barring`: the scans from module `k` on find what all find.
 use Prim.Native.Nat.{suc, ◌-◌}
 use Rattle.moves.specs.Scan.{scan_in, over_in}
 use Rattle.moves.proofs.Scans.{Left}

@@ -1,4 +1,4 @@
--- The scan from `k` on finds what the whole scan finds. Assumes nothing.
+-- `moves::scan::first_bar` meets its contract. Assumes nothing.
 use Rattle.moves.proofs.Scans.{first_hit, first_passed, first_done}
 use Rattle.moves.proofs.scan.first_bar.Goals as goal
 

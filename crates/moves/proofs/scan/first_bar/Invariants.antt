@@ -1,4 +1,4 @@
--- What holds at each turn of the loop of `moves::scan::first_bar`.
+-- At each turn of the loop of `moves::scan::first_bar`: the scan from `k` on finds what the whole scan finds.
 use Prim.Native.Nat.{suc, ◌+◌, ◌-◌}
 use Rattle.moves.specs.Scan.{bars_in, first_in}
 use Rattle.moves.proofs.Scans.{Left}

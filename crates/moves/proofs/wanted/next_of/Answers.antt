@@ -1,4 +1,4 @@
--- `moves::wanted::next_of` meets its contract. The loop's invariant: going on from here gives what the whole run of modules gives.
+-- `moves::wanted::next_of` meets its contract.
 use native.Mathlib.Omega.{arith}
 use Rattle.moves.proofs.Folds.{one_done, all_done}
 use Rattle.moves.proofs.wanted.next_of.Goals as goal

@@ -1,4 +1,4 @@
--- What holds at each turn of the loop of `moves::wanted::next_of`.
+-- At each turn of the loop of `moves::wanted::next_of`: going on from here gives what the whole run of modules gives.
 use Prim.Native.Nat.{◌-◌}
 use Rattle.moves.specs.Wanted.{none_wanted, wanted_at}
 use Rattle.moves.proofs.Folds.{Folded}

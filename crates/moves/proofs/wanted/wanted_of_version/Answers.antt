@@ -1,4 +1,4 @@
--- `moves::wanted::wanted_of_version` meets its contract. The loop's invariant: going on from here gives what the whole run of needs gives.
+-- `moves::wanted::wanted_of_version` meets its contract.
 use Rattle.moves.proofs.Folds.{one_done, all_done}
 use Rattle.moves.proofs.wanted.wanted_of_version.Goals as goal
 

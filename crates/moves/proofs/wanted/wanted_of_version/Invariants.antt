@@ -1,4 +1,4 @@
--- What holds at each turn of the loop of `moves::wanted::wanted_of_version`.
+-- At each turn of the loop of `moves::wanted::wanted_of_version`: going on from here gives what the whole run of needs gives.
 use Prim.Native.Nat.{◌+◌, ◌-◌}
 use Rattle.moves.specs.Wanted.{better_in}
 use Rattle.moves.proofs.Folds.{Folded}

@@ -1,4 +1,4 @@
--- `picker::area::clear` meets its contract. The loop's invariant: the first `i` bytes are 0, and the others as they were.
+-- `picker::area::clear` meets its contract.
 use Rattle.picker.proofs.Turns.{one_cleared, all_cleared}
 use Rattle.picker.proofs.area.clear.Goals as goal
 

@@ -1,4 +1,4 @@
--- What holds at each turn of the loop of `picker::area::clear`.
+-- At each turn of the loop of `picker::area::clear`: the first `i` bytes are 0, and the others as they were.
 use Prim.Native.Nat.{◌-◌}
 use lib.ListN.{length}
 use Rattle.picker.proofs.Turns.{Cleared}

@@ -1,4 +1,4 @@
--- `picker::area::copy` meets its contract. The loop's invariant: the first `i` bytes are copied.
+-- `picker::area::copy` meets its contract.
 use mathlib.Core.Path.{refl}
 use borrow.Author.Rules.{rules}
 use Rattle.picker.proofs.Turns.{one_copied}

@@ -1,4 +1,4 @@
--- What holds at each turn of the loop of `picker::area::copy`.
+-- At each turn of the loop of `picker::area::copy`: the first `i` bytes are copied.
 use Prim.Native.Nat.{◌-◌}
 use Rattle.picker.proofs.Turns.{Copied}
 use Rattle.picker.proofs.area.copy.Given as goal

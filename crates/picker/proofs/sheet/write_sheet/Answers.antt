@@ -3,14 +3,12 @@ use lib.Seq.{length-take-le}
 use Rattle.picker.proofs.Sheets.{sheet_stored}
 use Rattle.picker.proofs.sheet.write_sheet.Goals as goal
 
-pub returns-clause-size : goal.returns-clause-size
-returns-clause-size c = let given = c.args in
-    (sheet_stored _ given.count given.out.now (length-take-le given.end given.lines.now c.requires.has) c.write_frame-start.ensures.size
-    c.write_frame-start.ensures.area c.copy-stop.ensures.size c.copy-stop.ensures.area c.write_frame.ensures.size
-    c.write_frame.ensures.area).0
-
-pub returns-clause-area : goal.returns-clause-area
-returns-clause-area c = let given = c.args in
-    (sheet_stored _ given.count given.out.now (length-take-le given.end given.lines.now c.requires.has) c.write_frame-start.ensures.size
-    c.write_frame-start.ensures.area c.copy-stop.ensures.size c.copy-stop.ensures.area c.write_frame.ensures.size
-    c.write_frame.ensures.area).1
+pub returns : goal.returns
+returns c =
+    let given = c.args in
+    let head = c.write_frame-start.ensures in
+    let lines = c.copy-stop.ensures in
+    let last = c.write_frame.ensures in
+    let stored = sheet_stored _ given.count given.out.now (length-take-le given.end given.lines.now c.requires.has) head.size head.area lines.size lines.area
+    last.size last.area in
+    record { size = stored.0; area = stored.1 }

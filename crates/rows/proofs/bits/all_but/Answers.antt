@@ -1,4 +1,4 @@
--- `rows::bits::all_but` meets its contract. The loop's invariant: the bits from `k` on are built. Assumes nothing.
+-- `rows::bits::all_but` meets its contract. Assumes nothing.
 use mathlib.Core.Path.{refl}
 use mathlib.Core.Bool.{not}
 use Prim.Native.Nat.{◌-◌}

@@ -1,4 +1,4 @@
--- What holds at each turn of the loop of `rows::bits::all_but`.
+-- At each turn of the loop of `rows::bits::all_but`: the bits from `k` on are built.
 use mathlib.Core.Bool.{not}
 use lib.Dec.{eqb}
 use Rattle.rows.specs.Bits.{in_word}

@@ -1,4 +1,4 @@
--- `rows::bits::has_bit` meets its contract. The loop's invariant: bit `k` of what is left is the bit that is asked for. Assumes nothing.
+-- `rows::bits::has_bit` meets its contract. Assumes nothing.
 use mathlib.Core.Path.{◌∙◌, sym}
 use Rattle.rows.proofs.Building.{bit_half, bit_last}
 use Rattle.rows.proofs.bits.has_bit.Goals as goal

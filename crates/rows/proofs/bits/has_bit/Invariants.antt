@@ -1,4 +1,4 @@
--- What holds at each turn of the loop of `rows::bits::has_bit`.
+-- At each turn of the loop of `rows::bits::has_bit`: bit `k` of what is left is the bit that is asked for.
 use mathlib.Core.Path.{◌≡◌}
 use Rattle.rows.specs.Bits.{has_bit}
 use Rattle.rows.proofs.bits.has_bit.Given as goal

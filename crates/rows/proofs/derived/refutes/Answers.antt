@@ -1,4 +1,6 @@
--- `rows::derived::refutes` meets its contract. The loop's invariant: whether all modules pass is whether those from `m` on do. Assumes nothing.
+-- `rows::derived::refutes` meets its contract. Assumes nothing.
+use mathlib.Core.Bool.{not}
+use mathlib.Core.Path.{ap}
 use Rattle.rows.proofs.Building.{one_passed, one_failed, all_passed}
 use Rattle.rows.proofs.Told.{module_passed, module_failed, failed_told, passed_told}
 use Rattle.rows.proofs.derived.refutes.Goals as goal
@@ -9,14 +11,14 @@ returns-then-not-m-full c =
     failed_told given.work.now given.row given.counts.now given.modules
     (one_failed _ _ c.loop-m.invariant c.loop-m-test.true
     (module_failed given.work.now given.row given.modules given.counts.now c.loop-m.m c.absent_word-absent.ensures
-    c.is_full-full.ensures c.if-not-m-full.true-raw))
+    c.is_full-full.ensures (ap not c.if-not-m-full.true)))
 
 pub loop-m-preserved : goal.loop-m-preserved
 loop-m-preserved c =
     let given = c.args in
     one_passed _ _ c.loop-m.invariant c.loop-m-test.true
     (module_passed given.work.now given.row given.modules given.counts.now c.loop-m.m c.absent_word-absent.ensures
-    c.is_full-full.ensures c.if-not-m-full.false-raw)
+    c.is_full-full.ensures (ap not c.if-not-m-full.false))
 
 pub returns : goal.returns
 returns c =

@@ -1,4 +1,4 @@
--- What holds at each turn of the loop of `rows::derived::refutes`.
+-- At each turn of the loop of `rows::derived::refutes`: whether all modules pass is whether those from `m` on do.
 use Prim.Native.Nat.{◌-◌}
 use Rattle.rows.proofs.Building.{Passed}
 use Rattle.rows.proofs.Told.{root_or_full}

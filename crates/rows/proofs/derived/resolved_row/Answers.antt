@@ -1,5 +1,4 @@
--- `rows::derived::resolved_row` meets its contract. The loop's invariant: the first `j` words of the row are written; word `j` of both lines
--- is still as it was. Assumes nothing.
+-- `rows::derived::resolved_row` meets its contract. Assumes nothing.
 use mathlib.Core.Path.{◌∙◌}
 use Rattle.rows.proofs.Words.{none_filled, word_filled, not_yet}
 use Rattle.rows.proofs.Told.{resolved_told}

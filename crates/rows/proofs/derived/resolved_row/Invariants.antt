@@ -1,4 +1,4 @@
--- What holds at each turn of the loop of `rows::derived::resolved_row`.
+-- At each turn of the loop of `rows::derived::resolved_row`: the first `j` words of the row are written; word `j` of both lines is still as it was.
 use Prim.Native.Nat.{◌+◌, ◌-◌}
 use Rattle.rows.specs.Area.{word_at}
 use Rattle.rows.specs.Derived.{resolved_word}

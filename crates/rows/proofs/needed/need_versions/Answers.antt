@@ -1,5 +1,6 @@
--- `rows::needed::need_versions` meets its contract. The loop's invariant: the bits from `k` on are built. Assumes nothing.
+-- `rows::needed::need_versions` meets its contract. Assumes nothing.
 use mathlib.Core.Path.{refl, ap}
+use mathlib.Core.Bool.{not}
 use native.Mathlib.Omega.{arith}
 use Rattle.store.specs.declared.lookup.Span.{Span}
 use Rattle.rows.proofs.Building.{digit_small, in_word_small, none_built, has_room, bit_built}
@@ -9,7 +10,7 @@ use Rattle.rows.proofs.needed.need_versions.Goals as goal
 pub returns-then-not-m-needy : goal.returns-then-not-m-needy
 returns-then-not-m-needy c =
     let given = c.args in
-    word_unnamed given.values.now given.need given.m.0 c.if-not-m-needy.true-raw given.firsts.now given.counts.now
+    word_unnamed given.values.now given.need given.m.0 (ap not c.if-not-m-needy.true) given.firsts.now given.counts.now
     (ap (λ (s : Span). s.count) c.versions_of-places.ensures) c.all_bits.ensures
 
 pub loop-k-init : goal.loop-k-init
@@ -30,4 +31,4 @@ pub loop-k-preserved : goal.loop-k-preserved
 loop-k-preserved c =
     let given = c.args in
     bit_built _ _ _ c.loop-k.invariant c.loop-k-test.true refl
-    (bit_named given.values.now given.need given.m.0 c.if-not-m-needy.false-raw _ c.named_bit-bit.ensures) c.digit_of.ensures
+    (bit_named given.values.now given.need given.m.0 (ap not c.if-not-m-needy.false) _ c.named_bit-bit.ensures) c.digit_of.ensures

@@ -1,4 +1,4 @@
--- What holds at each turn of the loop of `rows::needed::need_versions`.
+-- At each turn of the loop of `rows::needed::need_versions`: the bits from `k` on are built.
 use Rattle.rows.specs.Bits.{in_word}
 use Rattle.rows.specs.Needed.{need_bit}
 use Rattle.rows.proofs.Building.{Built}

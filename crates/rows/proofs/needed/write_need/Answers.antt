@@ -1,4 +1,4 @@
--- `rows::needed::write_need` meets its contract. The loop's invariant: the first `j` words of the row are written. Assumes nothing.
+-- `rows::needed::write_need` meets its contract. Assumes nothing.
 use Rattle.rows.proofs.Words.{none_filled, word_filled}
 use Rattle.rows.proofs.needed.write_need.Goals as goal
 

@@ -1,4 +1,4 @@
--- What holds at each turn of the loop of `rows::needed::write_need`.
+-- At each turn of the loop of `rows::needed::write_need`: the first `j` words of the row are written.
 use Prim.Native.Nat.{◌+◌, ◌-◌}
 use Rattle.rows.specs.Needed.{need_word}
 use Rattle.rows.proofs.Words.{Filled}

@@ -1,4 +1,4 @@
--- `selection::text::count_settled` meets its contract. The loop's invariant: what is counted makes, with those to come, all of them.
+-- `selection::text::count_settled` meets its contract.
 use Rattle.selection.proofs.Turns.{settled_yes, settled_no, counts, passes, all_counted}
 use Rattle.selection.proofs.text.count_settled.Goals as goal
 use Rattle.selection.proofs.text.count_settled.Goals.{then-state-gt0, else-state-gt0}

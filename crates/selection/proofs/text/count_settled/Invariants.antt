@@ -1,4 +1,4 @@
--- What holds at each turn of the loop of `selection::text::count_settled`.
+-- At each turn of the loop of `selection::text::count_settled`: what is counted makes, with those to come, all of them.
 use Prim.Native.Nat.{◌-◌}
 use Rattle.selection.specs.Written.{is_settled}
 use Rattle.selection.proofs.Turns.{Counted}

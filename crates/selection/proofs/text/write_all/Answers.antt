@@ -1,4 +1,4 @@
--- `selection::text::write_all` meets its contract. The loop's invariant: what is written makes, with the lines to come, all lines.
+-- `selection::text::write_all` meets its contract.
 use mathlib.Core.Path.{◌∙◌, ap}
 use native.Mathlib.Omega.{arith}
 use lib.Seq.{sets}
@@ -29,8 +29,6 @@ loop-k-preserved c =
       | else-state-gt0 w ↦ line_left_out _ _ _ _ _ so_far inside (settled_no ch _ state w.if-state-gt0.false) w.end-is w.out-is
     ]
 
-pub returns-clause-size : goal.returns-clause-size
-returns-clause-size c = (all_written _ _ _ _ _ c.loop-k.invariant c.loop-k-test.false).0
-
-pub returns-clause-area : goal.returns-clause-area
-returns-clause-area c = (all_written _ _ _ _ _ c.loop-k.invariant c.loop-k-test.false).1
+pub returns : goal.returns
+returns c =
+    let written = all_written _ _ _ _ _ c.loop-k.invariant c.loop-k-test.false in record { size = written.0; area = written.1 }

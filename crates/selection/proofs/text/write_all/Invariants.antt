@@ -1,4 +1,4 @@
--- What holds at each turn of the loop of `selection::text::write_all`.
+-- At each turn of the loop of `selection::text::write_all`: what is written makes, with the lines to come, all lines.
 use Prim.Native.Nat.{◌-◌}
 use Rattle.selection.specs.Written.{is_settled, line_in}
 use Rattle.selection.proofs.Turns.{Lines}

@@ -13,14 +13,12 @@ write_frame-requires c =
     let given = c.args in
     omega (arith, settled_few given.chosen.now given.modules)
 
-pub returns-clause-size : goal.returns-clause-size
-returns-clause-size c = let given = c.args in
-    (text_stored given.values.now given.chosen.now given.modules given.out.now c.count_settled-count.ensures
-    c.write_frame-start.ensures.size c.write_frame-start.ensures.area c.write_all-end.ensures.size c.write_all-end.ensures.area
-    c.write_frame.ensures.size c.write_frame.ensures.area).0
-
-pub returns-clause-area : goal.returns-clause-area
-returns-clause-area c = let given = c.args in
-    (text_stored given.values.now given.chosen.now given.modules given.out.now c.count_settled-count.ensures
-    c.write_frame-start.ensures.size c.write_frame-start.ensures.area c.write_all-end.ensures.size c.write_all-end.ensures.area
-    c.write_frame.ensures.size c.write_frame.ensures.area).1
+pub returns : goal.returns
+returns c =
+    let given = c.args in
+    let head = c.write_frame-start.ensures in
+    let lines = c.write_all-end.ensures in
+    let last = c.write_frame.ensures in
+    let stored = text_stored given.values.now given.chosen.now given.modules given.out.now c.count_settled-count.ensures head.size head.area lines.size lines.area
+    last.size last.area in
+    record { size = stored.0; area = stored.1 }
