@@ -1,29 +1,18 @@
 // The bytes of a frame while its line is read, and the fields in them.
-ghost use Rattle.std.specs.Prelude.{◌≡◌, set};
+ghost use Rattle.std.specs.Prelude.{◌≡◌};
 ghost use Rattle.rules.specs.Frames.{byte_at, pair_at, version_at};
 
+use crate::access;
 use crate::numbers::Version;
 
 // The bytes of the longest frame.
 pub const LONGEST: usize = 9;
 
-// Puts a byte into a frame that is read, or into any other area; a byte past its end is dropped.
-pub fn put(frame: &mut [u8], at: usize, byte: u8)
-    ensures { frame.new ≡ set frame.old at byte }
-{
-    if at < frame.len() {
-        frame[at] = byte;
-    }
-}
-
 // A byte of the frame; 0 past the longest frame.
 pub fn byte_in(frame: [u8; LONGEST], at: usize) -> u8
     ensures { result ≡ byte_at frame at }
 {
-    if at < LONGEST {
-        return frame[at];
-    }
-    0
+    access::at(&frame, at, 0)
 }
 
 // A number of two bytes, the high one first.

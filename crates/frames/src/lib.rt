@@ -2,6 +2,7 @@
 // every reader tells, and frames as they are written.
 #![tactic(auto)]
 
+pub mod access;
 pub mod digits;
 pub mod faults;
 pub mod fields;

@@ -30,14 +30,11 @@ pub fn write_frame(out: &mut [u8], at: usize, bytes: &[u8]) -> usize
     ensures area { out.new ≡ sets out.old at (frame_text bytes.now) }
 {
     let mut sum: u32 = 0;
-    let mut i = 0;
     let mut end = at;
-    while i < bytes.len() {
-        let b = bytes[i];
+    for &b in bytes {
         write_byte(out, end, b);
         sum = (sum + b as u32) % 256;
         end += 2;
-        i += 1;
     }
     let check = (256 - sum) % 256;
     write_byte(out, end, check as u8);

@@ -8,20 +8,7 @@ use Rattle.store.specs.declared.frame.State.{State}
 use Rattle.store.specs.declared.frame.Last.{Last}
 use Rattle.store.specs.declared.lookup.Need.{Need}
 use Rattle.store.specs.declared.lookup.Span.{Span}
-
--- THE TABLES: of versions, by place, the number, the owner, the first need, and a mark, 0 or one more than its needs; of modules the place of the first
--- version, and how many; of needs, by number, the version's place, the target and the range
-pub record Tables : Type 0 where
-  pub values : List ℕ
-  pub owners : List ℕ
-  pub starts : List ℕ
-  pub marks : List ℕ
-  pub firsts : List ℕ
-  pub counts : List ℕ
-  pub needies : List ℕ
-  pub targets : List ℕ
-  pub lows : List ℕ
-  pub highs : List ℕ
+pub use Rattle.store.specs.declared.tables.Tables.{Tables}
 
 -- tables that hold nothing
 abbrev pub no_tables : Tables
@@ -74,6 +61,37 @@ kept t s z n f =
       targets = kept_at (is_need f) s.needs f.owner.0 t.targets;
       lows = kept_at (is_need f) s.needs f.low.0 t.lows;
       highs = kept_at (is_need f) s.needs f.high.0 t.highs;
+    }
+
+-- the tables after a version's frame alone, and after a need's
+abbrev pub version_kept : Tables → State → (count : ℕ) → Fields → Tables
+version_kept t s n f =
+    record {
+      values = set t.values s.versions f.low.0;
+      owners = set t.owners s.versions f.owner.0;
+      starts = set t.starts s.versions s.needs;
+      marks = set t.marks s.versions 1;
+      firsts = cond (eqb n 0) (set t.firsts f.owner.0 s.versions) t.firsts;
+      counts = set t.counts f.owner.0 (n + 1);
+      needies = t.needies;
+      targets = t.targets;
+      lows = t.lows;
+      highs = t.highs;
+    }
+
+abbrev pub need_kept : Tables → State → Last → Fields → Tables
+need_kept t s z f =
+    record {
+      values = t.values;
+      owners = t.owners;
+      starts = t.starts;
+      marks = set t.marks z.place.0 (z.needs + 2);
+      firsts = t.firsts;
+      counts = t.counts;
+      needies = set t.needies s.needs z.place.0;
+      targets = set t.targets s.needs f.owner.0;
+      lows = set t.lows s.needs f.low.0;
+      highs = set t.highs s.needs f.high.0;
     }
 
 -- tables that hold a catalogue, at every index: past the last version or need they are 0

@@ -1,7 +1,6 @@
-// The tables of a catalogue: the fault of a frame that does not fit, what a good frame adds, and access to the tables.
+// The tables of a catalogue: the fault of a frame that does not fit, and what a good frame adds to them; what the tables tell.
 #![tactic(auto)]
 
-pub mod access;
 pub mod frame;
 pub mod limits;
 pub mod lookup;

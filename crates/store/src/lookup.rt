@@ -3,7 +3,8 @@ ghost use Rattle.std.specs.Prelude.{◌≡◌, get_or};
 ghost use Rattle.store.specs.Frame.{version};
 ghost use Rattle.store.specs.Tables.{places_in, needs_in, need_in};
 
-use crate::{access, tables};
+use crate::tables::{UNUSED, one_less};
+use frames::access::at;
 use frames::numbers::{ModuleNo, Place, Version};
 
 // Numbers side by side: the first, and how many.
@@ -25,19 +26,17 @@ pub struct Need {
 pub fn version_at(values: &[u32], p: Place) -> Version
     ensures { result ≡ version (get_or values.now p.0 0) }
 {
-    Version(access::word_at(values, p.0 as usize))
+    Version(at(values, p.0 as usize, 0))
 }
 
 // The places of a module's versions, oldest first.
 pub fn versions_of<'a>(firsts: &'a [u16], counts: &'a [u16], m: ModuleNo) -> Span
     ensures { result ≡ places_in firsts.now counts.now m.0 }
 {
-    let at = m.0 as usize;
-    let first = access::half_at(firsts, at);
-    let count = access::half_at(counts, at);
+    let i = m.0 as usize;
     Span {
-        first: first,
-        count: count,
+        first: at(firsts, i, 0),
+        count: at(counts, i, 0),
     }
 }
 
@@ -45,13 +44,10 @@ pub fn versions_of<'a>(firsts: &'a [u16], counts: &'a [u16], m: ModuleNo) -> Spa
 pub fn needs_of<'a>(starts: &'a [u16], marks: &'a [u16], p: Place) -> Span
     ensures { result ≡ needs_in starts.now marks.now p.0 }
 {
-    let at = p.0 as usize;
-    let first = access::half_at(starts, at);
-    let mark = access::half_at(marks, at);
-    let count = tables::one_less(mark);
+    let i = p.0 as usize;
     Span {
-        first: first,
-        count: count,
+        first: at(starts, i, 0),
+        count: one_less(at(marks, i, UNUSED)),
     }
 }
 
@@ -59,13 +55,10 @@ pub fn needs_of<'a>(starts: &'a [u16], marks: &'a [u16], p: Place) -> Span
 pub fn need_at<'a>(targets: &'a [u16], lows: &'a [u32], highs: &'a [u32], k: u16) -> Need
     ensures { result ≡ need_in targets.now lows.now highs.now k }
 {
-    let at = k as usize;
-    let target = access::half_at(targets, at);
-    let low = access::word_at(lows, at);
-    let high = access::word_at(highs, at);
+    let i = k as usize;
     Need {
-        target: ModuleNo(target),
-        low: Version(low),
-        high: Version(high),
+        target: ModuleNo(at(targets, i, 0)),
+        low: Version(at(lows, i, 0)),
+        high: Version(at(highs, i, 0)),
     }
 }

@@ -1,6 +1,6 @@
 -- Each way out has passed the tests before it and failed its own. Assumes nothing.
 use mathlib.Core.Path.{ap}
-use borrow.Author.Tests.{eq-eqb, ne_eqb, not-true, not-false}
+use borrow.Author.Tests.{eq-eqb, ne_eqb}
 use Rattle.frames.specs.Faults.{told, end_fault}
 use Rattle.frames.proofs.faults.end_fault.Goals as goal
 

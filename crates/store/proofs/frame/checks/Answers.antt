@@ -1,5 +1,4 @@
 -- Each way out has passed the tests before it and failed its own. Assumes nothing.
-use borrow.Author.Tests.{not-true, not-false}
 use Rattle.store.specs.Frame.{checks}
 use Rattle.store.proofs.frame.checks.Goals as goal
 
