@@ -1,7 +1,7 @@
 -- A line's fault as the code finds it, from the bytes it has kept, is the reader's, where the code finds the fault of the frame (`line_judged`). Of a
 -- line that fits its kind all bytes are kept (`Kept`), so of a good line (`good_kept`). This is the same for every reader. Assumes nothing.
 use mathlib.Core.Path.{◌≡◌, refl, sym, ◌∙◌, ap}
-use mathlib.Core.Logic.{◌⊎◌, inl, inr, ⊎_elim, ◌≢◌}
+use mathlib.Core.Logic.{◌⊎◌, inl, inr, ⊎_elim}
 use mathlib.Core.Bool.{Bool, true, false, ◌&&◌, cond}
 use mathlib.Core.List.{List, [], ◌∷◌}
 use Prim.Native.Nat.{ℕ, ◌*◌, ◌≤◌, ◌<◌}
@@ -18,6 +18,7 @@ use Rattle.rules.proofs.Readers.{Good, good_line, in_order}
 use Rattle.rules.proofs.Written.{hex_written, byte_small}
 use Rattle.frames.specs.Faults.{line_fault_of}
 use Rattle.frames.specs.Kinds.{row_for}
+use Rattle.frames.specs.Texts.{Kept}
 use Rattle.frames.proofs.Lines.{frame_size, shape_size}
 use Rattle.frames.proofs.InLine.{longest, InLine}
 
@@ -44,12 +45,6 @@ rows_most (r ∷ rs) t k e = go (eqb r.text t && eqb r.kind k) (rows_most rs t k
 digits_most : (t k : ℕ) → digits_for t k ≤ 2 * longest
 unfolding kinds all
 digits_most t k = rows_most kinds t k refl
-
--- of a frame whose line fits its kind: the kind is one of the text's, its bytes are bytes, and those that were kept are all of them
-pub record Kept (text : ℕ) (kept frame : List ℕ) : Type 0 where
-  pub known : digits_for text (kind_of frame) ≢ 0
-  pub small : (i : ℕ) → byte_at frame i < 256
-  pub alike : (i : ℕ) → byte_at kept i ≡ byte_at frame i
 
 module _ {S : Type 0} (r : Reader S) {text : List ℕ} {from at : ℕ} {kept : List ℕ} {bytes total : ℕ} (q : InLine text from at kept bytes total) where
   abbrev frame : List ℕ
@@ -108,3 +103,13 @@ module _ {S : Type 0} (r : Reader S) {text : List ℕ} {from at : ℕ} {kept : L
       where
         fits : Good r u (line q.digits true)
         fits = good_line r u (line q.digits true) e
+
+-- a reader that finds nothing wrong in any frame
+fair : (text : ℕ) → Reader ℕ
+fair t = record { text = t; fault = λ s f. 0; after = λ s f. s; is_ended = λ s. true; last = λ s. 0 }
+
+-- of a line with nothing wrong of its own all bytes are kept
+pub fits_kept : (t : ℕ) {text : List ℕ} {from at : ℕ} {kept : List ℕ} {bytes total : ℕ} (q : InLine text from at kept bytes total) →
+    line_fault_of bytes total (row_for t (byte_at kept 0)) 0 ≡ 0 → Kept t kept (frame_of q.digits)
+unfolding fair
+fits_kept t q z = good_kept (fair t) q 0 (sym (line_judged (fair t) q 0 0 (λ k. refl)) ∙ z)

@@ -4,4 +4,6 @@ pub mod Areas
 pub mod Lines
 pub mod InLine
 pub mod Judged
+pub mod Taken
 pub mod Steps
+pub mod Read

@@ -16,7 +16,7 @@ use Rattle.rules.specs.Lines.{fault, Line, line, line_feed, with_byte, lines_of,
 use Rattle.rules.specs.Frames.{digit_of, frame_of, Reader, bad, line_fault, read_from}
 use Rattle.rules.proofs.Lists.{same_or_not}
 use Rattle.frames.specs.Digits.{pair_at}
-use Rattle.frames.specs.Reached.{reached_from}
+use Rattle.frames.specs.Texts.{reached_from}
 use Rattle.frames.specs.declared.digits.Pair.TheVariants.{Byte, LineFeed, Wrong}
 use Rattle.frames.proofs.Pairs.{no_feed, IsByte, IsWrong, past, no_digit, alone, no_second, Stands, stands}
 

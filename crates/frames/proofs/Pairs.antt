@@ -9,11 +9,13 @@ use native.Mathlib.Omega.{arith}
 use lib.Dec.{ltb, leb, eqb}
 use borrow.Author.Tests.{ltb-true, ltb-false, leb-true, eqb-true, eqb-false, lt-ltb, le-ltb, le-leb, lt-leb, eq-eqb, ne_eqb}
 use lib.ListN.{length, get_or}
+use Rattle.std.specs.declared.option.Option.{Option}
+use Rattle.std.specs.declared.option.Option.TheVariants.{None, Some}
 use Rattle.rules.specs.Lists.{is_in}
 use Rattle.rules.specs.Lines.{line_feed, is_digit}
 use Rattle.rules.specs.Frames.{digit_of}
 use Rattle.rules.proofs.Lists.{and_fst, and_snd, or_cases}
-use Rattle.frames.specs.Digits.{digit_or, pair_of, pair_at}
+use Rattle.frames.specs.Digits.{digit_in, pair_of, pair_at}
 use Rattle.frames.specs.declared.digits.Pair.{Pair}
 use Rattle.frames.specs.declared.digits.Pair.TheVariants.{Byte, LineFeed, Wrong}
 
@@ -36,20 +38,27 @@ digit_range c e = ⊎_elim low high (or_cases (is_in 48 57 c) _ e)
 pub no_feed : (c : ℕ) → is_digit c ≡ true → c ≢ line_feed
 no_feed c e p = let h = (digit_range c e).0 in omega arith
 
--- what a character is worth: 16 if it is no digit, and otherwise the digit
-digit_wrong : (c : ℕ) {r : ℕ} → r ≡ digit_or c → 16 ≤ r → is_digit c ≡ false
-digit_wrong c {r} e h = go (is_digit c) refl e
-  where
-    go : (b : Bool) → is_digit c ≡ b → r ≡ cond b (digit_of c) 16 → b ≡ false
-    go true p q = let s = (digit_range c p).1 in absurd (omega arith)
-    go false p q = refl
+-- an optional number as a number
+number : Option ℕ → ℕ
+number None = 0
+number (Some r) = r + 1
 
-digit_right : (c : ℕ) {r : ℕ} → r ≡ digit_or c → r < 16 → (is_digit c ≡ true) × (r ≡ digit_of c)
-digit_right c {r} e h = go (is_digit c) e
+-- a character that is worth nothing is no digit, and one that is worth something is that digit
+digit_wrong : (c : ℕ) → None ≡ digit_in c → is_digit c ≡ false
+unfolding number
+digit_wrong c e = go (is_digit c) e
   where
-    go : (b : Bool) → r ≡ cond b (digit_of c) 16 → (b ≡ true) × (r ≡ digit_of c)
-    go true q = (refl, q)
-    go false q = absurd (omega arith)
+    go : (b : Bool) → ◌≡◌ {A = Option ℕ} None (cond b (Some (digit_of c)) None) → b ≡ false
+    go true q = let e : ◌≡◌ {A = ℕ} 0 (digit_of c + 1) = ap number q in absurd (omega arith)
+    go false q = refl
+
+digit_right : (c : ℕ) {r : ℕ} → Some r ≡ digit_in c → (is_digit c ≡ true) × (r ≡ digit_of c)
+unfolding number
+digit_right c {r} e = go (is_digit c) e
+  where
+    go : (b : Bool) → ◌≡◌ {A = Option ℕ} (Some r) (cond b (Some (digit_of c)) None) → (b ≡ true) × (r ≡ digit_of c)
+    go true q = let e : r + 1 ≡ digit_of c + 1 = ap number q in (refl, omega arith)
+    go false q = let e : ◌≡◌ {A = ℕ} (r + 1) 0 = ap number q in absurd (omega arith)
 
 -- WHAT STANDS AT A PLACE
 -- two digits, and the byte that they are worth
@@ -118,18 +127,18 @@ module _ (t : List ℕ) (i : ℕ) where
       rw (lt-ltb i (length t) (omega arith), ne_eqb _ _ (no_feed _ e), e, lt-ltb (i + 1) (length t) (omega arith), n)
 
   -- the same, by what the characters are worth as digits
-  pub first_wrong : {x : ℕ} → x ≡ digit_or (get_or t i 0) → 16 ≤ x → i < length t → get_or t i 0 ≢ line_feed → Wrong ≡ pair_at t i
-  first_wrong e g h n = told Wrong (no_digit h n (digit_wrong (get_or t i 0) e g))
+  pub first_wrong : None ≡ digit_in (get_or t i 0) → i < length t → get_or t i 0 ≢ line_feed → Wrong ≡ pair_at t i
+  first_wrong e h n = told Wrong (no_digit h n (digit_wrong (get_or t i 0) e))
 
-  pub second_missing : {x : ℕ} → x ≡ digit_or (get_or t i 0) → x < 16 → i + 1 ≡ length t → Wrong ≡ pair_at t i
-  second_missing e g h = told Wrong (alone h (digit_right (get_or t i 0) e g).0)
+  pub second_missing : {x : ℕ} → Some x ≡ digit_in (get_or t i 0) → i + 1 ≡ length t → Wrong ≡ pair_at t i
+  second_missing e h = told Wrong (alone h (digit_right (get_or t i 0) e).0)
 
-  module _ {x y : ℕ} (e : x ≡ digit_or (get_or t i 0)) (f : y ≡ digit_or (get_or t (i + 1) 0)) (small : x < 16) (inside : i + 2 ≤ length t) where
-    pub second_wrong : 16 ≤ y → Wrong ≡ pair_at t i
-    second_wrong g = told Wrong (no_second inside (digit_right (get_or t i 0) e small).0 (digit_wrong (get_or t (i + 1) 0) f g))
+  module _ {x : ℕ} (e : Some x ≡ digit_in (get_or t i 0)) (inside : i + 2 ≤ length t) where
+    pub second_wrong : None ≡ digit_in (get_or t (i + 1) 0) → Wrong ≡ pair_at t i
+    second_wrong f = told Wrong (no_second inside (digit_right (get_or t i 0) e).0 (digit_wrong (get_or t (i + 1) 0) f))
 
-    pub both_right : y < 16 → Byte (x * 16 + y) ≡ pair_at t i
-    both_right g =
-        let high = digit_right (get_or t i 0) e small in
-        let low = digit_right (get_or t (i + 1) 0) f g in
+    pub both_right : {y : ℕ} → Some y ≡ digit_in (get_or t (i + 1) 0) → Byte (x * 16 + y) ≡ pair_at t i
+    both_right {y} f =
+        let high = digit_right (get_or t i 0) e in
+        let low = digit_right (get_or t (i + 1) 0) f in
         told (Byte (x * 16 + y)) (record { within = inside; first = high.0; second = low.0; value = omega arith })

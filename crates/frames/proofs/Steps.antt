@@ -3,26 +3,26 @@
 -- told is the text's fault (`stopped_fault`). Assumes nothing.
 use mathlib.Core.Path.{◌≡◌, refl, sym, ◌∙◌, ap}
 use mathlib.Core.Logic.{◌≢◌}
-use mathlib.Core.Bool.{Bool, true, false, cond}
+use mathlib.Core.Bool.{true, cond}
 use mathlib.Core.List.{List, [], ◌∷◌}
-use Prim.Native.Nat.{ℕ, suc, ◌+◌, ◌-◌, ◌≤◌}
+use Prim.Native.Nat.{ℕ, suc, ◌+◌, ◌≤◌}
 use native.Mathlib.Omega.{arith}
 use native.Mathlib.Numerals.{add-one}
 use lib.Dec.{eqb}
 use lib.ListN.{length, drop, drop_of_length-le}
 use borrow.Author.Tests.{ne_eqb}
 use Rattle.rules.specs.Lines.{fault, Line, line, lines_of}
-use Rattle.rules.specs.Frames.{frame_of, byte_at, Reader, Read, bad, got, line_fault, read_from, fault_of}
+use Rattle.rules.specs.Frames.{frame_of, byte_at, Reader, bad, line_fault, read_from}
 use Rattle.rules.proofs.Readers.{good_line}
 use Rattle.frames.specs.Digits.{pair_at}
-use Rattle.frames.specs.Faults.{line_fault_of, told, end_fault}
-use Rattle.frames.specs.declared.faults.Fault as Told
+use Rattle.frames.specs.Faults.{line_fault_of}
 use Rattle.frames.specs.Kinds.{row_for}
-use Rattle.frames.specs.Reached.{reached_from}
+use Rattle.frames.specs.Texts.{reached_from}
 use Rattle.frames.specs.declared.digits.Pair.TheVariants.{LineFeed, Wrong}
 use Rattle.frames.proofs.Lines.{misshapen_read, misshapen_reached}
 use Rattle.frames.proofs.InLine.{InLine, line_feed_lem, line_wrong}
-use Rattle.frames.proofs.Judged.{Kept, line_judged, good_kept}
+use Rattle.frames.specs.Texts.{Kept}
+use Rattle.frames.proofs.Judged.{line_judged, good_kept}
 
 -- LINES ARE COUNTED from 1, and each has a character at least
 pub record Counted (text : List ℕ) (at number : ℕ) : Type 0 where
@@ -131,24 +131,3 @@ module _ {S : Type 0} (r : Reader S) (begin : S) where
 
               reached : reached_from r u (lines_of (drop at text)) ≡ reached_from r next (lines_of (drop (to + 1) text))
               reached = rw (lines, good)
-
--- WHAT IS TOLD then is the text's fault, with the reader's own tests after the last line
-module _ {S : Type 0} (r : Reader S) (u : S) (n i : ℕ) where
-  -- the three tests: no fault in the lines, an end, nothing wrong at the end's line
-  end_by : (last : ℕ) → (good ended fits : Bool) → Read S
-  end_by k a b z = cond a (cond b (cond z (got u) (bad (fault k (i - 1)))) (bad (fault 5 i))) (bad (fault n i))
-
-  told_by : (last : ℕ) → (good ended fits : Bool) → Told.Fault
-  told_by k a b z = cond a (cond b (cond z (told 0 0) (told k (i - 1))) (told 5 i)) (told n i)
-
-  by_tests : (last : ℕ) (a b z : Bool) → fault (told_by last a b z).number (told_by last a b z).line ≡ fault_of (end_by last a b z)
-  unfolding end_by told_by
-  by_tests k false b z = refl
-  by_tests k true false z = refl
-  by_tests k true true false = refl
-  by_tests k true true true = refl
-
-  pub stopped_fault : {begin : S} {text : List ℕ} → Stopped r begin text n i u →
-      fault (end_fault n i (r.is_ended u) (r.last u)).number (end_fault n i (r.is_ended u) (r.last u)).line ≡ fault_of (read_from r 1 begin (lines_of text))
-  unfolding end_fault told_by end_by read_from
-  stopped_fault s = by_tests (r.last u) (eqb n 0) (r.is_ended u) (eqb (r.last u) 0) ∙ ap fault_of (sym s.outcome)

@@ -3,4 +3,4 @@ pub mod Numbers
 pub mod Digits
 pub mod Kinds
 pub mod Faults
-pub mod Reached
+pub mod Texts

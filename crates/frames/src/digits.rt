@@ -1,6 +1,6 @@
 // A pair of digits of a text, read as a byte.
 ghost use Rattle.std.specs.Prelude.{◌≡◌};
-ghost use Rattle.frames.specs.Digits.{digit_or, pair_at};
+ghost use Rattle.frames.specs.Digits.{digit_in, pair_at};
 
 // What stands at a place of a text: a pair of digits, the end of a line, or something that can't stand there.
 #[derive(Clone, Copy)]
@@ -10,23 +10,15 @@ pub enum Pair {
     Wrong,
 }
 
-// A digit's value, or 16.
-pub fn digit(c: u8) -> u8
-    ensures { result ≡ digit_or c }
+// A digit's value.
+pub fn digit(c: u8) -> Option<u8>
+    ensures { result ≡ digit_in c }
 {
-    if c < 48 {
-        return 16;
+    match c {
+        b'0'..=b'9' => Some(c - b'0'),
+        b'A'..=b'F' => Some(c - b'A' + 10),
+        _ => None,
     }
-    if c <= 57 {
-        return c - 48;
-    }
-    if c < 65 {
-        return 16;
-    }
-    if c <= 70 {
-        return c - 55;
-    }
-    16
 }
 
 // The second character is looked at only where the first is a digit.
@@ -37,20 +29,18 @@ pub fn pair_at(text: &[u8], at: usize) -> Pair
         return Pair::Wrong;
     }
     let first = text[at];
-    if first == 10 {
+    if first == b'\n' {
         return Pair::LineFeed;
     }
-    let high = digit(first);
-    if 16 <= high {
+    let Some(high) = digit(first) else {
         return Pair::Wrong;
-    }
+    };
     let next = at + 1;
     if text.len() <= next {
         return Pair::Wrong;
     }
-    let low = digit(text[next]);
-    if 16 <= low {
+    let Some(low) = digit(text[next]) else {
         return Pair::Wrong;
-    }
+    };
     Pair::Byte(high * 16 + low)
 }

@@ -1,79 +1,65 @@
-// The faults that every reader tells alike: of a line's shape, sum and kind, and after the last line.
-ghost use Rattle.std.specs.Prelude.{◌≡◌, ◌-◌, ◌≤◌};
-ghost use Rattle.rules.specs.Lines.{unless};
-ghost use Rattle.rules.specs.Catalogue.{limits};
-ghost use Rattle.frames.specs.Faults.{line_fault_of, end_fault};
+// Why a text is refused, and the tests that every reader makes of a line alike: of its shape, its sum and its kind.
+ghost use Rattle.std.specs.Prelude.{◌≡◌, ◌≤◌, true, false, IfOk, OnOk, IfErr};
+ghost use Rattle.frames.specs.Faults.{number_of, told, line_fault_of};
+ghost use Rattle.frames.specs.Kinds.{text_number, row_for, row_of};
 
-use crate::kinds::Kind;
+use crate::kinds::{Row, Text, look_up};
 
 // The least bytes of a line: a kind and a check.
 const LEAST: usize = 2;
 
-// A number of the table of faults and the line told; number 0 is no fault.
+// Why a text is refused, each with its number in the rules' table.
+#[derive(Clone, Copy, PartialEq, Eq)]
+pub enum Refusal {
+    Length = 1,
+    Shape = 2,
+    Sum = 3,
+    Kind = 4,
+    Order = 5,
+    Content = 6,
+    Room = 7,
+    Root = 8,
+    Unrefuting = 13,
+}
+
+// A refusal, and the line told.
 #[derive(Clone, Copy)]
 pub struct Fault {
-    pub number: u8,
+    pub refusal: Refusal,
     pub line: u32,
 }
 
-// A number where a test fails.
-pub fn unless(passes: bool, number: u8) -> u8
-    ensures { result ≡ unless passes number }
+impl From<Refusal> for u8 {
+    fn from(refusal: Refusal) -> u8
+        ensures { result ≡ number_of refusal }
+    {
+        refusal as u8
+    }
+}
+
+// A refusal where a test fails.
+#[inline]
+pub fn ensure(passes: bool, refusal: Refusal) -> Result<(), Refusal>
+    ensures ok { OnOk result (passes ≡ true) }
+    ensures err { IfErr result (λ e. (passes ≡ false) × (e ≡ refusal)) }
 {
     if passes {
-        return 0;
+        return Ok(());
     }
-    number
+    Err(refusal)
 }
 
-// 2, 3 and 4 by the bytes of a line, their sum and the row of their kind, and then what is wrong with the frame.
-pub fn line_fault(bytes: usize, sum: u32, row: Kind, frame: u8) -> u8
-    requires { bytes ≤ limits.bytes }
-    ensures { result ≡ line_fault_of bytes sum row frame }
+// 2, 3 and 4 by the bytes of a line, their sum and its kind; of a line without these the row of its kind.
+pub fn line_row(text: Text, kind: u8, bytes: usize, sum: u32) -> Result<Row, Refusal>
+    requires { bytes ≤ 4294967295 }
+    ensures number { told result ≡ line_fault_of bytes sum (row_for (text_number text) kind) 0 }
+    ensures row { IfOk result (λ r. row_of r ≡ row_for (text_number text) kind) }
 {
-    if bytes < LEAST {
-        return 2;
-    }
-    if sum != 0 {
-        return 3;
-    }
-    if row.digits as usize != bytes * 2 {
-        return 4;
-    }
-    frame
-}
-
-// The line before, for a count of at least one.
-fn line_before(line: u32) -> u32
-    ensures { result ≡ line - 1 }
-{
-    if line == 0 {
-        return 0;
-    }
-    line - 1
-}
-
-// After the lines: the fault found in them; else 5 where there is no end, and what is wrong at the end's line.
-pub fn end_fault(number: u8, line: u32, ended: bool, last: u8) -> Fault
-    ensures { result ≡ end_fault number line ended last }
-{
-    if number != 0 {
-        return Fault {
-            number: number,
-            line: line,
-        };
-    }
-    if !ended {
-        return Fault {
-            number: 5,
-            line: line,
-        };
-    }
-    if last != 0 {
-        return Fault {
-            number: last,
-            line: line_before(line),
-        };
-    }
-    Fault { number: 0, line: 0 }
+    ensure(LEAST <= bytes, Refusal::Shape)?;
+    ensure(sum == 0, Refusal::Sum)?;
+    let Some(row) = look_up(text, kind) else {
+        return Err(Refusal::Kind);
+    };
+    ensure(row.digits as usize == bytes * 2, Refusal::Kind)?;
+    Ok(row)
 }

@@ -1,121 +1,136 @@
 // The one table of the kinds of frames, for every text and reader.
-ghost use Rattle.std.specs.Prelude.{◌≡◌};
-ghost use Rattle.frames.specs.Kinds.{row_for};
+ghost use Rattle.std.specs.Prelude.{◌≡◌, ◌&&◌, eqb};
+ghost use Rattle.frames.specs.Kinds.{row_for, row_found, row_of, text_number, kind_number};
 
-// The texts, by the number that tells which was at fault.
-pub const CATALOGUE: u8 = 1;
+// The texts, each with the number that tells which was at fault.
+#[derive(Clone, Copy, PartialEq, Eq)]
+pub enum Text {
+    Catalogue = 1,
+    Sheet = 2,
+}
 
-pub const SHEET: u8 = 2;
+// The kinds of frames, a catalogue's and a sheet's, each with the byte that a frame begins with.
+#[derive(Clone, Copy, PartialEq, Eq)]
+pub enum Kind {
+    Head = 0x01,
+    Version = 0x02,
+    Need = 0x03,
+    End = 0x04,
+    Caret = 0x05,
+    SheetHead = 0x20,
+    NeedLine = 0x21,
+    Resolved = 0x22,
+    SheetEnd = 0x24,
+}
 
-// Kinds of a catalogue's frames.
-pub const HEAD: u8 = 0x01;
-
-pub const VERSION: u8 = 0x02;
-
-pub const NEED: u8 = 0x03;
-
-pub const END: u8 = 0x04;
-
-pub const CARET: u8 = 0x05;
-// Kinds of a sheet's frames.
-pub const SHEET_HEAD: u8 = 0x20;
-
-pub const NEED_LINE: u8 = 0x21;
-
-pub const RESOLVED: u8 = 0x22;
-
-pub const SHEET_END: u8 = 0x24;
-
-// A kind of frame: its text, its number, the digits of its line, and where in the frame its first, second and third field stand (0: it has none).
+// A row of the table: a text and a kind that it has, the digits of the kind's line, and where in the frame its first, second and third field stand (0: it
+// has none).
 #[derive(Clone, Copy)]
-pub struct Kind {
-    pub text: u8,
-    pub kind: u8,
+pub struct Row {
+    pub text: Text,
+    pub kind: Kind,
     pub digits: u8,
     pub first: u8,
     pub second: u8,
     pub third: u8,
 }
 
+impl From<Kind> for u8 {
+    fn from(kind: Kind) -> u8
+        ensures { result ≡ kind_number kind }
+    {
+        kind as u8
+    }
+}
+
+impl Row {
+    // The row of this kind of this text, by the kind's byte.
+    fn is_of(self, text: Text, kind: u8) -> bool
+        ensures { result ≡ (eqb (row_of self).text (text_number text) && eqb (row_of self).kind kind) }
+    {
+        (self.text == text) & (u8::from(self.kind) == kind)
+    }
+}
+
 const ROWS: usize = 9;
 
-const KINDS: [Kind; ROWS] = [
+const KINDS: [Row; ROWS] = [
     // head: M
-    Kind {
-        text: CATALOGUE,
-        kind: HEAD,
+    Row {
+        text: Text::Catalogue,
+        kind: Kind::Head,
         digits: 6,
         first: 1,
         second: 0,
         third: 0,
     },
     // version: module, version
-    Kind {
-        text: CATALOGUE,
-        kind: VERSION,
+    Row {
+        text: Text::Catalogue,
+        kind: Kind::Version,
         digits: 12,
         first: 1,
         second: 2,
         third: 0,
     },
     // need: module, low, upper end
-    Kind {
-        text: CATALOGUE,
-        kind: NEED,
+    Row {
+        text: Text::Catalogue,
+        kind: Kind::Need,
         digits: 18,
         first: 1,
         second: 2,
         third: 5,
     },
     // caret need: module, low
-    Kind {
-        text: CATALOGUE,
-        kind: CARET,
+    Row {
+        text: Text::Catalogue,
+        kind: Kind::Caret,
         digits: 12,
         first: 1,
         second: 2,
         third: 0,
     },
     // end
-    Kind {
-        text: CATALOGUE,
-        kind: END,
+    Row {
+        text: Text::Catalogue,
+        kind: Kind::End,
         digits: 4,
         first: 0,
         second: 0,
         third: 0,
     },
     // head: line count
-    Kind {
-        text: SHEET,
-        kind: SHEET_HEAD,
+    Row {
+        text: Text::Sheet,
+        kind: Kind::SheetHead,
         digits: 8,
         first: 1,
         second: 0,
         third: 0,
     },
     // need line: need number
-    Kind {
-        text: SHEET,
-        kind: NEED_LINE,
+    Row {
+        text: Text::Sheet,
+        kind: Kind::NeedLine,
         digits: 8,
         first: 1,
         second: 0,
         third: 0,
     },
     // resolved line: first line, second line, module
-    Kind {
-        text: SHEET,
-        kind: RESOLVED,
+    Row {
+        text: Text::Sheet,
+        kind: Kind::Resolved,
         digits: 14,
         first: 1,
         second: 3,
         third: 5,
     },
     // end
-    Kind {
-        text: SHEET,
-        kind: SHEET_END,
+    Row {
+        text: Text::Sheet,
+        kind: Kind::SheetEnd,
         digits: 4,
         first: 0,
         second: 0,
@@ -123,24 +138,14 @@ const KINDS: [Kind; ROWS] = [
     },
 ];
 
-// The row of a kind of a text; one with no digits where the text doesn't have the kind.
-pub fn row(text: u8, kind: u8) -> Kind
-    ensures { result ≡ row_for text kind }
+// The row of a kind of a text, by the kind's byte, if the text has the kind.
+pub fn look_up(text: Text, kind: u8) -> Option<Row>
+    ensures { row_found (text_number text) kind result ≡ row_for (text_number text) kind }
 {
-    let mut i = 0;
-    while i < ROWS {
-        let k = KINDS[i];
-        if (k.text == text) & (k.kind == kind) {
-            return k;
+    for row in KINDS {
+        if row.is_of(text, kind) {
+            return Some(row);
         }
-        i += 1;
     }
-    Kind {
-        text: text,
-        kind: kind,
-        digits: 0,
-        first: 0,
-        second: 0,
-        third: 0,
-    }
+    None
 }

@@ -10,16 +10,14 @@ returns-then-text-at c = told _ _ Wrong (past c.if-text-at.true)
 pub returns-then-first-eq10 : goal.returns-then-first-eq10
 returns-then-first-eq10 c = told _ _ LineFeed (c.if-text-at.false, c.if-first-eq10.true)
 
-pub returns-then-high-ge16 : goal.returns-then-high-ge16
-returns-then-high-ge16 c = first_wrong _ _ c.digit-high.ensures c.if-high-ge16.true c.if-text-at.false c.if-first-eq10.false
+pub returns-in_default : goal.returns-in_default
+returns-in_default c = first_wrong _ _ c.in_default.ensures c.if-text-at.false c.if-first-eq10.false
 
 pub returns-then-text-next : goal.returns-then-text-next
-returns-then-text-next c = second_missing _ _ c.digit-high.ensures c.if-high-ge16.false (omega arith)
+returns-then-text-next c = second_missing _ _ c.in-Some.ensures (omega arith)
 
-pub returns-then-low-ge16 : goal.returns-then-low-ge16
-returns-then-low-ge16 c =
-    second_wrong _ _ c.digit-high.ensures c.digit-low.ensures c.if-high-ge16.false (omega arith) c.if-low-ge16.true
+pub returns-in_default-digit : goal.returns-in_default-digit
+returns-in_default-digit c = second_wrong _ _ c.in-Some.ensures (omega arith) c.in_default-digit.ensures
 
 pub returns : goal.returns
-returns c =
-    both_right _ _ c.digit-high.ensures c.digit-low.ensures c.if-high-ge16.false (omega arith) c.if-low-ge16.false
+returns c = both_right _ _ c.in-Some.ensures (omega arith) c.in-Some-digit.ensures
