@@ -15,9 +15,7 @@ use Rattle.rules.specs.Frames.{byte_at, kind_of, version_at, catalogues, kinds, 
 use Rattle.rules.specs.Catalogue.{Version, Limits, Reading, catalogue_reader, last_version, version_in, has_version, is_older, places_of}
 use Rattle.rules.specs.Catalogue.{is_head, is_version, is_need, order_fits, content_fits, room_fits, with_frame}
 use Rattle.rules.proofs.Lists.{same_or_not, length_last}
-use Rattle.store.specs.declared.frame.Fields.{Fields}
-use Rattle.store.specs.declared.frame.State.{State}
-use Rattle.store.specs.Frame.{state_of, last_of, fields_at, checks, frame_fault, after}
+use Rattle.store.specs.Frame.{Fields, State, state_of, last_of, fields_at, checks, frame_fault, after}
 
 -- THE KINDS of a catalogue's frames
 pub data Known (kind : ℕ) : Type 0 where

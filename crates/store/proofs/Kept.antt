@@ -21,10 +21,8 @@ use Rattle.rules.proofs.Lists.{and_fst, and_snd, or_cases, same_or_not, longer, 
 use Rattle.rules.proofs.Readers.{or_else_none, unless_none}
 use Rattle.rules.proofs.Reading.{more_versions, places_grown}
 use Rattle.frames.proofs.InLine.{get_or_zeros, longer_other}
-use Rattle.store.specs.declared.frame.Fields.{Fields}
-use Rattle.store.specs.declared.frame.State.{State}
 use Rattle.store.specs.declared.frame.Last.{Last}
-use Rattle.store.specs.Frame.{module_no, version, state_of, last_of, fields_at, checks, version_fault, need_fault, frame_fault}
+use Rattle.store.specs.Frame.{Fields, State, module_no, version, state_of, last_of, fields_at, checks, version_fault, need_fault, frame_fault}
 use Rattle.store.specs.Tables.{Tables, no_tables, kept_at, is_version, is_need, kept, last_in, Holds}
 use Rattle.store.proofs.Faults.{Known, a_head, a_version, a_need, a_caret, an_end, known_kind, fields_in, fault_law}
 use Rattle.store.proofs.Faults.{head_fields, version_fields_lem, need_fields_lem, caret_fields, end_fields}

@@ -7,9 +7,8 @@ use lib.Dec.{eqb}
 use lib.ListN.{get_or}
 use Rattle.rules.specs.Frames.{byte_at, version_at}
 use Rattle.frames.specs.declared.numbers.Version.{Version}
-use Rattle.store.specs.declared.frame.Fields.{Fields}
 use Rattle.store.specs.declared.frame.Last.{Last}
-use Rattle.store.specs.Frame.{module_no, place, version, fields_at}
+use Rattle.store.specs.Frame.{Fields, module_no, place, version, fields_at}
 use Rattle.store.specs.declared.lookup.Need.{Need}
 use Rattle.store.specs.Tables.{last_in, span, places_in, needs_in, need_in}
 

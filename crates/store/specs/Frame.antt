@@ -3,13 +3,43 @@ use Rattle.std.specs.Prelude.{Bool, true, ◌&&◌, ◌||◌, not, cond, List, �
 use Rattle.rules.specs.Lists.{is_in}
 use Rattle.rules.specs.Lines.{or_else, unless}
 use Rattle.rules.specs.Frames.{byte_at, version_at}
+use Rattle.rules.specs.Frames as Rules
 use Rattle.rules.specs.Catalogue.{Catalogue, Limits, Reading, last_version, needs_of}
 use Rattle.frames.specs.declared.numbers.ModuleNo.{ModuleNo}
 use Rattle.frames.specs.declared.numbers.Place.{Place}
 use Rattle.frames.specs.declared.numbers.Version.{Version}
-use Rattle.store.specs.declared.frame.Fields.{Fields}
-use Rattle.store.specs.declared.frame.State.{State}
+use Rattle.frames.specs.Kinds.{kind_number}
+use Rattle.store.specs.declared.frame.Fields as Code
+use Rattle.store.specs.declared.frame.State as Code_State
+use Rattle.store.specs.declared.frame.Stands.{Stands}
+use Rattle.store.specs.declared.frame.Stands.TheVariants.{BeforeHead, InBody, AfterEnd}
 use Rattle.store.specs.declared.frame.Last.{Last}
+
+-- THE FIELDS of a frame, its kind by its number, and where a reading stands (0 before the head, 1 in the body, 2 after the end) and how much has been read
+pub record Fields : Type 0 where
+  pub kind : ℕ
+  pub owner : ModuleNo
+  pub low : Version
+  pub topped : Bool
+  pub high : Version
+
+pub record State : Type 0 where
+  pub stands : ℕ
+  pub modules : ℕ
+  pub versions : ℕ
+  pub needs : ℕ
+
+-- as the code has them, by enums
+abbrev pub fields_told : Code.Fields → Fields
+fields_told f = record { kind = kind_number f.kind; owner = f.owner; low = f.low; topped = f.topped; high = f.high }
+
+abbrev pub stands_number : Stands → ℕ
+stands_number BeforeHead = 0
+stands_number InBody = 1
+stands_number AfterEnd = 2
+
+abbrev pub state_told : Code_State.State → State
+state_told s = record { stands = stands_number s.stands; modules = s.modules; versions = s.versions; needs = s.needs }
 
 abbrev pub module_no : ℕ → ModuleNo
 module_no m = record { 0 = m }
@@ -48,6 +78,17 @@ fields_at i j k f =
       low = version (version_at f j);
       topped = eqb (byte_at f j) 255 || eqb (byte_at f (j + 1)) 255 || eqb (byte_at f (j + 2)) 255;
       high = version (cond (eqb (byte_at f 0) 5) ((byte_at f j + 1) * 65536) (version_at f k));
+    }
+
+-- the fields of a frame of a kind with this row of the table
+abbrev pub fields_by : Rules.Kind → (frame : List ℕ) → Fields
+fields_by r f =
+    record {
+      kind = r.kind;
+      owner = module_no (byte_at f r.first);
+      low = version (version_at f r.second);
+      topped = eqb (byte_at f r.second) 255 || eqb (byte_at f (r.second + 1)) 255 || eqb (byte_at f (r.second + 2)) 255;
+      high = version (cond (eqb r.kind 5) ((byte_at f r.second + 1) * 65536) (version_at f r.third));
     }
 
 -- 5, 6 and 7: the first of three tests that fails

@@ -2,9 +2,7 @@
 use Rattle.std.specs.Prelude.{◌≡◌, Bool, ◌&&◌, ◌||◌, not, cond, List, ℕ, ◌+◌, ◌-◌, ltb, eqb, length, get_or, set, replicate}
 use Rattle.rules.specs.Lists.{up_from}
 use Rattle.rules.specs.Catalogue.{Catalogue, version_at_place, need_at, places_of, needs_of}
-use Rattle.store.specs.Frame.{module_no, place, version}
-use Rattle.store.specs.declared.frame.Fields.{Fields}
-use Rattle.store.specs.declared.frame.State.{State}
+use Rattle.store.specs.Frame.{module_no, place, version, Fields, State}
 use Rattle.store.specs.declared.frame.Last.{Last}
 use Rattle.store.specs.declared.lookup.Need.{Need}
 use Rattle.store.specs.declared.lookup.Span.{Span}

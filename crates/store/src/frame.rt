@@ -1,28 +1,39 @@
 // A frame of a catalogue: its fields, what is wrong with it, and how the reading goes on after it.
-ghost use Rattle.std.specs.Prelude.{◌≡◌, cond, ◌+◌, ◌*◌, ◌<◌, eqb};
+ghost use Rattle.std.specs.Prelude.{◌≡◌, ◌<◌};
 ghost use Rattle.rules.specs.Catalogue.{limits};
-ghost use Rattle.store.specs.Frame.{checks, head_fault, version_fault, need_fault, end_fault, frame_fault, after, fields_at};
+ghost use Rattle.frames.specs.Faults.{told};
+ghost use Rattle.frames.specs.Kinds.{row_of};
+ghost use Rattle.store.specs.Frame.{state_told, fields_told, fields_by, checks, head_fault, version_fault, need_fault, end_fault, frame_fault, after};
 
 use crate::limits::{MODULES, NEEDS, OF_MODULE, OF_VERSION};
+use frames::faults::{Refusal, ensure};
 use frames::fields::{LONGEST, byte_in, version_in};
-use frames::kinds::{CARET, HEAD, Kind, NEED, VERSION};
+use frames::kinds::{Kind, Row};
 use frames::numbers::{ModuleNo, Place, Version};
 
 // The fields of a frame of any kind: a module (of a head, how many), a version or the low end of a range with whether it has a byte 255, and the
 // upper end.
 #[derive(Clone, Copy)]
 pub struct Fields {
-    pub kind: u8,
+    pub kind: Kind,
     pub owner: ModuleNo,
     pub low: Version,
     pub topped: bool,
     pub high: Version,
 }
 
-// Where the reading stands (0 before the head, 1 in the body, 2 after the end), and how much has been read.
+// Where the reading stands.
+#[derive(Clone, Copy, PartialEq, Eq)]
+pub enum Stands {
+    BeforeHead,
+    InBody,
+    AfterEnd,
+}
+
+// Where the reading stands, and how much has been read.
 #[derive(Clone, Copy)]
 pub struct State {
-    pub stands: u8,
+    pub stands: Stands,
     pub modules: u16,
     pub versions: u16,
     pub needs: u16,
@@ -37,127 +48,120 @@ pub struct Last {
     pub needs: u16,
 }
 
-// 5, 6 or 7: the first of three tests that fails; 0 where none does.
-pub fn checks(order: bool, content: bool, room: bool) -> u8
-    ensures { result ≡ checks order content room }
+// 5, 6 or 7: the first of three tests that fails.
+#[inline]
+#[tactic(auto, unfolding(crate::specs::Frame::checks))]
+pub fn checks(order: bool, content: bool, room: bool) -> Result<(), Refusal>
+    ensures { told result ≡ checks order content room }
 {
-    if !order {
-        return 5;
-    }
-    if !content {
-        return 6;
-    }
-    if !room {
-        return 7;
-    }
-    0
+    ensure(order, Refusal::Order)?;
+    ensure(content, Refusal::Content)?;
+    ensure(room, Refusal::Room)
 }
 
-fn head_fault(s: State, f: Fields) -> u8
-    ensures { result ≡ head_fault s f }
+fn head_fault(s: State, f: Fields) -> Result<(), Refusal>
+    ensures { told result ≡ head_fault (state_told s) (fields_told f) }
 {
-    let m = f.owner;
-    checks(s.stands == 0, (1 <= m.0) & (m.0 <= MODULES), true)
+    let m = f.owner.0;
+    checks(
+        s.stands == Stands::BeforeHead,
+        (1 <= m) & (m <= MODULES),
+        true,
+    )
 }
 
 // `count` versions of the module have been read.
-fn version_fault(s: State, last: Last, count: u16, f: Fields) -> u8
-    ensures { result ≡ version_fault limits s last count f }
+fn version_fault(s: State, last: Last, count: u16, f: Fields) -> Result<(), Refusal>
+    ensures { told result ≡ version_fault limits (state_told s) last count (fields_told f) }
 {
-    let m = f.owner;
-    let v = f.low;
-    let o = last.owner;
-    let w = last.value;
-    let newer = w.is_older(v);
-    let rises = (s.versions == 0) | (o.0 < m.0) | ((o.0 == m.0) & newer);
+    let newer = (last.owner == f.owner) & (last.value < f.low);
+    let rises = (s.versions == 0) | (last.owner < f.owner) | newer;
     checks(
-        (s.stands == 1) & rises,
-        (m.0 < s.modules) & !f.topped,
+        (s.stands == Stands::InBody) & rises,
+        (f.owner.0 < s.modules) & !f.topped,
         count < OF_MODULE,
     )
 }
 
-fn need_fault(s: State, last: Last, f: Fields) -> u8
-    ensures { result ≡ need_fault limits s last f }
+fn need_fault(s: State, last: Last, f: Fields) -> Result<(), Refusal>
+    ensures { told result ≡ need_fault limits (state_told s) last (fields_told f) }
 {
-    let m = f.owner;
-    let low = f.low;
-    let high = f.high;
-    let o = last.owner;
-    let end = Version::NO_END;
-    let rises = (low.0 < high.0) & (high.0 <= end.0);
+    let rises = (f.low < f.high) & (f.high.0 <= Version::NO_END.0);
     let room = (last.needs < OF_VERSION) & (s.needs < NEEDS);
     checks(
-        (s.stands == 1) & (s.versions != 0),
-        (m.0 < s.modules) & (m.0 != o.0) & rises,
+        (s.stands == Stands::InBody) & (s.versions != 0),
+        (f.owner.0 < s.modules) & (f.owner != last.owner) & rises,
         room,
     )
 }
 
-fn end_fault(s: State) -> u8
-    ensures { result ≡ end_fault s }
+fn end_fault(s: State) -> Result<(), Refusal>
+    ensures { told result ≡ end_fault (state_told s) }
 {
-    checks(s.stands == 1, true, true)
+    checks(s.stands == Stands::InBody, true, true)
 }
 
-// What is wrong with a frame of a known kind.
-pub fn frame_fault(s: State, last: Last, count: u16, f: Fields) -> u8
-    ensures { result ≡ frame_fault limits s last count f }
+// What is wrong with a frame of a catalogue's kind.
+#[tactic(auto, unfolding(crate::specs::Frame::frame_fault))]
+pub fn frame_fault(s: State, last: Last, count: u16, f: Fields) -> Result<(), Refusal>
+    ensures { told result ≡ frame_fault limits (state_told s) last count (fields_told f) }
 {
-    if f.kind == HEAD {
-        return head_fault(s, f);
+    match f.kind {
+        Kind::Head => head_fault(s, f),
+        Kind::Version => version_fault(s, last, count, f),
+        Kind::Need | Kind::Caret => need_fault(s, last, f),
+        _ => end_fault(s),
     }
-    if f.kind == VERSION {
-        return version_fault(s, last, count, f);
-    }
-    if (f.kind == NEED) | (f.kind == CARET) {
-        return need_fault(s, last, f);
-    }
-    end_fault(s)
 }
 
-pub fn after(s: State, f: Fields) -> State
-    requires { (s.versions < 65535) × (s.needs < 65535) }
-    ensures { result ≡ after s f }
-{
-    let m = f.owner;
-    if f.kind == HEAD {
-        return State {
-            stands: 1,
-            modules: m.0,
-            versions: 0,
-            needs: 0,
-        };
-    }
-    if f.kind == VERSION {
-        return State {
-            stands: 1,
-            modules: s.modules,
-            versions: s.versions + 1,
-            needs: s.needs,
-        };
-    }
-    if (f.kind == NEED) | (f.kind == CARET) {
-        return State {
-            stands: 1,
-            modules: s.modules,
-            versions: s.versions,
-            needs: s.needs + 1,
-        };
-    }
-    State {
-        stands: 2,
-        modules: s.modules,
-        versions: s.versions,
-        needs: s.needs,
+impl State {
+    // Nothing has been read.
+    pub const START: State = State {
+        stands: Stands::BeforeHead,
+        modules: 0,
+        versions: 0,
+        needs: 0,
+    };
+
+    // How the reading goes on after a frame.
+    #[tactic(auto, unfolding(crate::specs::Frame::after))]
+    pub fn after(self, f: Fields) -> State
+        requires { (self.versions < 65535) × (self.needs < 65535) }
+        ensures { state_told result ≡ after (state_told self) (fields_told f) }
+    {
+        match f.kind {
+            Kind::Head => State {
+                stands: Stands::InBody,
+                modules: f.owner.0,
+                versions: 0,
+                needs: 0,
+            },
+            Kind::Version => State {
+                stands: Stands::InBody,
+                modules: self.modules,
+                versions: self.versions + 1,
+                needs: self.needs,
+            },
+            Kind::Need | Kind::Caret => State {
+                stands: Stands::InBody,
+                modules: self.modules,
+                versions: self.versions,
+                needs: self.needs + 1,
+            },
+            _ => State {
+                stands: Stands::AfterEnd,
+                modules: self.modules,
+                versions: self.versions,
+                needs: self.needs,
+            },
+        }
     }
 }
 
 // The fields of a frame of a kind with this row of the table.
-pub fn fields_of(frame: [u8; LONGEST], row: Kind) -> Fields
-    ensures { result ≡ fields_at row.first row.second row.third frame }
+pub fn fields_of(frame: [u8; LONGEST], row: Row) -> Fields
+    ensures { fields_told result ≡ fields_by (row_of row) frame }
 {
-    let kind = byte_in(frame, 0);
     let i = row.first as usize;
     let j = row.second as usize;
     let owner = byte_in(frame, i) as u16;
@@ -166,22 +170,16 @@ pub fn fields_of(frame: [u8; LONGEST], row: Kind) -> Fields
     let patch = byte_in(frame, j + 2);
     let topped = (major == 255) | (minor == 255) | (patch == 255);
     let low = version_in(frame, row.second);
-    let high = upper_end(kind, major, version_in(frame, row.third));
+    let high = match row.kind {
+        // A caret's range ends at the next major version.
+        Kind::Caret => Version((major as u32 + 1) * 65536),
+        _ => version_in(frame, row.third),
+    };
     Fields {
-        kind: kind,
+        kind: row.kind,
         owner: ModuleNo(owner),
-        low: low,
-        topped: topped,
-        high: high,
+        low,
+        topped,
+        high,
     }
-}
-
-// A caret's range ends at the next major version.
-fn upper_end(kind: u8, major: u8, high: Version) -> Version
-    ensures { result.0 ≡ cond (eqb kind 5) ((major + 1) * 65536) high.0 }
-{
-    if kind == CARET {
-        return Version((major as u32 + 1) * 65536);
-    }
-    high
 }

@@ -1,11 +1,12 @@
 // The tables that a catalogue is read into: what they hold at the start, what a frame adds, and what they tell of the version last read.
 ghost use Rattle.std.specs.Prelude.{◌≡◌, ◌-◌, ◌<◌};
+ghost use Rattle.store.specs.Frame.{state_told, fields_told};
 ghost use Rattle.store.specs.Tables.{no_tables, kept, version_kept, need_kept, last_in};
 
 use crate::frame::{Fields, Last, State};
 use crate::limits::{MODULES, NEEDS, VERSIONS};
 use frames::access::{at, put};
-use frames::kinds::{CARET, NEED, VERSION};
+use frames::kinds::Kind;
 use frames::numbers::{ModuleNo, Place, Version};
 
 // The mark of a version that is not there.
@@ -73,7 +74,7 @@ impl Tables {
     // A version frame's entries, for the version and for its module, of which `count` versions stand before it.
     fn keep_version(&mut self, s: State, count: u16, f: Fields)
         requires { count < 65535 }
-        ensures { self.new ≡ version_kept self.old s count f }
+        ensures { self.new ≡ version_kept self.old (state_told s) count (fields_told f) }
     {
         let i = s.versions as usize;
         let m = f.owner.0 as usize;
@@ -90,7 +91,7 @@ impl Tables {
     // A need frame's entries, and the mark of the version that has it.
     fn keep_need(&mut self, s: State, last: Last, f: Fields)
         requires { last.needs < 65534 }
-        ensures { self.new ≡ need_kept self.old s last f }
+        ensures { self.new ≡ need_kept self.old (state_told s) last (fields_told f) }
     {
         let k = s.needs as usize;
         let p = last.place.0;
@@ -105,13 +106,12 @@ impl Tables {
     pub fn keep(&mut self, s: State, last: Last, count: u16, f: Fields)
         requires versions { count < 65535 }
         requires needs { last.needs < 65534 }
-        ensures { self.new ≡ kept self.old s last count f }
+        ensures { self.new ≡ kept self.old (state_told s) last count (fields_told f) }
     {
-        if f.kind == VERSION {
-            self.keep_version(s, count, f);
-        }
-        if (f.kind == NEED) | (f.kind == CARET) {
-            self.keep_need(s, last, f);
+        match f.kind {
+            Kind::Version => self.keep_version(s, count, f),
+            Kind::Need | Kind::Caret => self.keep_need(s, last, f),
+            _ => {}
         }
     }
 }
