@@ -1,4 +1,3 @@
 -- Lemmas that the proofs of this crate share.
-pub mod Judged
-pub mod Steps
+pub mod Taken
 pub mod Finished

@@ -1,5 +1,6 @@
 // Why a text is refused, and the tests that every reader makes of a line alike: of its shape, its sum and its kind.
 ghost use Rattle.std.specs.Prelude.{◌≡◌, ◌≤◌, true, false, IfOk, OnOk, IfErr};
+ghost use Rattle.rules.specs.Lines.{unless};
 ghost use Rattle.frames.specs.Faults.{number_of, told, line_fault_of};
 ghost use Rattle.frames.specs.Kinds.{text_number, row_for, row_of};
 
@@ -42,6 +43,7 @@ impl From<Refusal> for u8 {
 pub fn ensure(passes: bool, refusal: Refusal) -> Result<(), Refusal>
     ensures ok { OnOk result (passes ≡ true) }
     ensures err { IfErr result (λ e. (passes ≡ false) × (e ≡ refusal)) }
+    ensures number { told result ≡ unless passes (number_of refusal) }
 {
     if passes {
         return Ok(());

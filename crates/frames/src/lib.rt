@@ -7,6 +7,6 @@ pub mod digits;
 pub mod faults;
 pub mod fields;
 pub mod kinds;
-pub mod texts;
 pub mod numbers;
+pub mod texts;
 pub mod written;

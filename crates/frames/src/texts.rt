@@ -15,11 +15,14 @@ use crate::kinds::{Row, Text};
 pub trait LineReader {
     // What the rules know after the frames so far, when a reader stands for that, and the rules' reader.
     ghost Known: { Type 0 };
+
     ghost stands: { Self → Known → Type 0 };
+
     ghost reads: { Reader Known };
 
     // What is lent to a reader, and stays the same.
     ghost Lender: { Type 0 };
+
     ghost lender: { Self → Lender };
 
     // Which text it reads.
@@ -43,7 +46,12 @@ pub trait LineReader {
 }
 
 // A whole line: its shape, its sum and its kind, and then what the reader finds in its frame.
-fn take_line<R: LineReader>(reader: &mut R, frame: [u8; LONGEST], bytes: usize, sum: u32) -> Result<(), Refusal>
+fn take_line<R: LineReader>(
+    reader: &mut R,
+    frame: [u8; LONGEST],
+    bytes: usize,
+    sum: u32,
+) -> Result<(), Refusal>
     requires begun { (u : R.Known) × R.stands reader.old u }
     requires size { bytes ≤ 4294967295 }
     ensures taken { LineTaken R.reads R.stands reader.old reader.new frame bytes sum (told result) }

@@ -23,7 +23,9 @@ use Rattle.rules.proofs.Reading.{more_versions, places_grown}
 use Rattle.frames.proofs.InLine.{get_or_zeros, longer_other}
 use Rattle.store.specs.declared.frame.Last.{Last}
 use Rattle.store.specs.Frame.{Fields, State, module_no, version, state_of, last_of, fields_at, checks, version_fault, need_fault, frame_fault}
-use Rattle.store.specs.Tables.{Tables, no_tables, kept_at, is_version, is_need, kept, last_in, Holds}
+use Rattle.store.specs.declared.tables.Tables.{Tables}
+use Rattle.store.specs.Tidy.{Sizes, Ends, Tidy, Reads}
+use Rattle.store.specs.Tables.{no_tables, kept_at, is_version, is_need, kept, last_in, Holds}
 use Rattle.store.proofs.Faults.{Known, a_head, a_version, a_need, a_caret, an_end, known_kind, fields_in, fault_law}
 use Rattle.store.proofs.Faults.{head_fields, version_fields_lem, need_fields_lem, caret_fields, end_fields}
 
@@ -65,38 +67,6 @@ set_next {A} d p ns xs x h old =
 -- so numbers from `i` up, with the next one behind them, are one more
 up_from_more : (xs : List ℕ) (i n at : ℕ) → xs ≡ up_from i n → i + n ≡ at → longer xs at ≡ up_from i (suc n)
 up_from_more xs i n at p q = rw (p, ← q) (sym (up_from_last i n))
-
--- TIDY TABLES: their sizes are the code's
-pub record Sizes (t : Tables) : Type 0 where
-  pub values : length t.values ≡ 512
-  pub owners : length t.owners ≡ 512
-  pub starts : length t.starts ≡ 512
-  pub marks : length t.marks ≡ 512
-  pub firsts : length t.firsts ≡ 32
-  pub counts : length t.counts ≡ 32
-  pub needies : length t.needies ≡ 1024
-  pub targets : length t.targets ≡ 1024
-  pub lows : length t.lows ≡ 1024
-  pub highs : length t.highs ≡ 1024
-
--- the needs of the last version are the last needs, the versions of its module, `o`, are the last versions, and later modules have none. As a
--- module has 16 versions at most, the number of versions is bounded by `o`
-pub record Ends (t : Tables) (c : Catalogue) : Type 0 where
-  pub tip : get_or t.starts (length c.versions - 1) 0 + (get_or t.marks (length c.versions - 1) 0 - 1) ≡ length c.needs
-  pub tail : get_or t.firsts (last_version c).owner 0 + get_or t.counts (last_version c).owner 0 ≡ length c.versions
-  pub later : (m : ℕ) → (last_version c).owner < m → get_or t.counts m 0 ≡ 0
-  pub bound : length c.versions ≤ (last_version c).owner * 16 + get_or t.counts (last_version c).owner 0
-
--- tables of the code's sizes that hold a catalogue, within the limits
-pub record Tidy (t : Tables) (c : Catalogue) : Type 0 where
-  pub holds : Holds t c
-  pub sizes : Sizes t
-  pub ends : 0 < length c.versions → Ends t c
-  pub modules_fit : c.modules ≤ 32
-  pub versions_fit : length c.versions ≤ 512
-  pub needs_fit : length c.needs ≤ 1024
-  pub counts_fit : (m : ℕ) → get_or t.counts m 0 ≤ 16
-  pub marks_fit : (i : ℕ) → get_or t.marks i 0 ≤ 17
 
 -- how many versions a module has
 pub count_holds : {t : Tables} {c : Catalogue} → Holds t c → (m : ℕ) → get_or t.counts m 0 ≡ length (places_of c m)
@@ -593,12 +563,7 @@ module _ {t : Tables} (u : Reading) (f : List ℕ) (tidy : Tidy t u.sofar) where
       go (a_caret e) = subst Keeps (sym (caret_fields f e)) (caret_keeps e)
       go (an_end e) = subst Keeps (sym (end_fields f e)) (end_keeps e)
 
--- THE READING: tidy tables, and nothing before the head
-pub record Reads (t : Tables) (u : Reading) : Type 0 where
-  pub tidy : Tidy t u.sofar
-  pub none : u.stands ≡ 0 → u.sofar ≡ no_catalogue
-
--- so it is at the start
+-- A READING of nothing stands for itself
 pub reads_start : Reads no_tables (reading 0 no_catalogue)
 reads_start = record { tidy = tidy_start; none = λ e. refl }
 

@@ -6,7 +6,7 @@ use Rattle.store.specs.Frame.{module_no, place, version, Fields, State}
 use Rattle.store.specs.declared.frame.Last.{Last}
 use Rattle.store.specs.declared.lookup.Need.{Need}
 use Rattle.store.specs.declared.lookup.Span.{Span}
-pub use Rattle.store.specs.declared.tables.Tables.{Tables}
+use Rattle.store.specs.declared.tables.Tables.{Tables}
 
 -- tables that hold nothing
 abbrev pub no_tables : Tables

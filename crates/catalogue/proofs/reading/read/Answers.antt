@@ -1,14 +1,10 @@
--- A text that is too long is not read; any other is read line by line. Assumes nothing.
-use mathlib.Core.Path.{sym, subst}
-use Rattle.catalogue.specs.declared.reading.Lines.{Lines}
-use Rattle.catalogue.specs.Reading.{CatalogueRead}
-use Rattle.catalogue.proofs.Finished.{lines_owed, too_long}
+-- What the line loop owes of any text is what is owed of a catalogue's. Assumes nothing.
+use Rattle.catalogue.specs.Reading.{start}
+use Rattle.catalogue.proofs.Finished.{begun, read_owed}
 use Rattle.catalogue.proofs.reading.read.Goals as goal
 
-pub returns-then-text-gt-BYTES : goal.returns-then-text-gt-BYTES
-returns-then-text-gt-BYTES c =
-    let text = c.args.text.now in
-    subst (λ (r : Lines). CatalogueRead text r) (sym c.nothing_read.ensures) (too_long text c.if-text-gt-BYTES.true)
+pub read_text-requires-clause-begun : goal.read_text-requires-clause-begun
+read_text-requires-clause-begun c = (start, rw c.none.ensures begun)
 
 pub returns : goal.returns
-returns c = lines_owed _ _ c.if-text-gt-BYTES.false c.read_lines.ensures
+returns c = read_owed (c.read_text.ensures.read start (rw c.none.ensures begun))

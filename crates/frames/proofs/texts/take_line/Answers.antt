@@ -12,11 +12,11 @@ pub returns-in_err-row-clause-taken : goal.returns-in_err-row-clause-taken
 returns-in_err-row-clause-taken g c =
     let same : told c.from_residual.result ≡ number_of c.in_err-row.field-0.0 = search rules in
     let number = c.in_err-row.ensures.number ∙
-        ap (λ (t : ℕ). line_fault_of c.args.bytes c.args.sum (row_for t (byte_at c.args.frame 0)) 0) c.text.ensures in
+    ap (λ (t : ℕ). line_fault_of c.args.bytes c.args.sum (row_for t (byte_at c.args.frame 0)) 0) c.text.ensures in
     rw same (line_refused _ _ (some_number c.in_err-row.field-0.0) number)
 
 pub returns-clause-taken : goal.returns-clause-taken
 returns-clause-taken g c =
     let number = c.in_ok-row.ensures.number ∙
-        ap (λ (t : ℕ). line_fault_of c.args.bytes c.args.sum (row_for t (byte_at c.args.frame 0)) 0) c.text.ensures in
+    ap (λ (t : ℕ). line_fault_of c.args.bytes c.args.sum (row_for t (byte_at c.args.frame 0)) 0) c.text.ensures in
     line_taken _ _ (sym number) c.take.ensures.taken
