@@ -5,21 +5,18 @@ ghost use Rattle.std.proofs.lemmas.List.Edits.{sets};
 ghost use Rattle.selection.specs.Written.{settled_in, line_of, line_in, text_in};
 
 use frames::numbers::{ModuleNo, Version};
-use frames::written;
-use store::access;
+use frames::{access, written};
 
 // How many of the first modules have a version chosen.
 pub fn count_settled(chosen: &[u16], modules: u16) -> u16
     ensures { result ≡ length (settled_in chosen.now modules) }
 {
     let mut count: u16 = 0;
-    let mut k: u16 = 0;
-    while k < modules {
-        let state = access::half_at(chosen, k as usize);
+    for k in 0..modules {
+        let state = access::at(chosen, k as usize, 0);
         if 0 < state {
             count += 1;
         }
-        k += 1;
     }
     count
 }
@@ -54,14 +51,12 @@ pub fn write_all<'a>(
         (flat_map (line_in values.now chosen.now) (settled_in chosen.now modules)) }
 {
     let mut end = at;
-    let mut k: u16 = 0;
-    while k < modules {
-        let state = access::half_at(chosen, k as usize);
+    for k in 0..modules {
+        let state = access::at(chosen, k as usize, 0);
         if 0 < state {
-            let v = access::word_at(values, (state - 1) as usize);
+            let v = access::at(values, (state - 1) as usize, 0);
             end = write_selected(out, end, ModuleNo(k), Version(v));
         }
-        k += 1;
     }
     end
 }
