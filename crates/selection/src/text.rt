@@ -27,13 +27,8 @@ pub fn write_selected(out: &mut [u8], at: usize, m: ModuleNo, v: Version) -> usi
     ensures size { result ≡ at + 13 }
     ensures area { out.new ≡ sets out.old at (line_of m.0 v.0) }
 {
-    let line: [u8; 5] = [
-        18,
-        (m.0 % 256) as u8,
-        (v.0 / 65536 % 256) as u8,
-        (v.0 / 256 % 256) as u8,
-        (v.0 % 256) as u8,
-    ];
+    let [_, major, minor, patch] = v.0.to_be_bytes();
+    let line = [18, (m.0 % 256) as u8, major, minor, patch];
     written::write_frame(out, at, &line)
 }
 
