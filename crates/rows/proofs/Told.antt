@@ -1,10 +1,9 @@
 -- What a need line cites and what the tests of a row answer, put together from what the calls tell: each premise is what one call ensures.
 -- Assumes nothing.
 use mathlib.Core.Path.{◌≡◌, sym, ◌∙◌, ap, ap₂}
-use mathlib.Core.Bool.{Bool, true, false, ◌||◌, not, and-true, and-false}
+use mathlib.Core.Bool.{Bool, true, false, ◌||◌, and-true, and-false}
 use mathlib.Core.List.{List, [], ◌∷◌}
 use Prim.Native.Nat.{ℕ, ◌+◌, ◌/◌, ◌%◌}
-use borrow.Author.Tests.{not-true, not-false}
 use lib.Dec.{eqb}
 use lib.ListN.{get_or, set}
 use Rattle.rules.specs.Lists.{all, below}
@@ -38,6 +37,7 @@ module _ (l : Lent) (n : Cited) (m : ℕ) where
       f ∙ ap all_bits e ∙
       bits_agree (λ i. true) (need_bit l n m) 0 (get_or l.firsts m 0) (in_word (get_or l.counts m 0)) (λ j i. sym (cond_false _ _ h))
 
+-- a word of a resolved line, from that word of both lines as it was read
 pub resolved_told : (w m j : ℕ) {x y a b r : ℕ} → x ≡ a → y ≡ b → r ≡ resolved_word w m x y j → r ≡ resolved_word w m a b j
 resolved_told w m j e f g = g ∙ ap₂ (λ (u v : ℕ). resolved_word w m u v j) e f
 
@@ -45,16 +45,11 @@ resolved_told w m j e f g = g ∙ ap₂ (λ (u v : ℕ). resolved_word w m u v j
 abbrev pub root_or_full : (area : List ℕ) → (row : ℕ) → Lent → (owner : ℕ) → Bool
 root_or_full a r l m = eqb m 0 || is_full_in a r (absent_word l.modules) l m
 
-module _ (area : List ℕ) (r : ℕ) (l : Lent) (m : ℕ) {w : ℕ} {b : Bool} (a : w ≡ absent_word l.modules) (e : b ≡ is_full_in area r w l m) where
-  same_answer : (eqb m 0 || b) ≡ root_or_full area r l m
-  same_answer = ap (λ (x : Bool). eqb m 0 || x) (e ∙ ap (λ (k : ℕ). is_full_in area r k l m) a)
+pub module_told : (area : List ℕ) (r : ℕ) (l : Lent) (m : ℕ) {w : ℕ} {b x : Bool} → w ≡ absent_word l.modules → b ≡ is_full_in area r w l m →
+    (eqb m 0 || b) ≡ x → root_or_full area r l m ≡ x
+module_told area r l m e f h = rw (← e, ← f) h
 
-  pub module_passed : not (eqb m 0 || b) ≡ false → root_or_full area r l m ≡ true
-  module_passed h = sym same_answer ∙ not-false (eqb m 0 || b) h
-
-  pub module_failed : not (eqb m 0 || b) ≡ true → root_or_full area r l m ≡ false
-  module_failed h = sym same_answer ∙ not-true (eqb m 0 || b) h
-
+-- the answer, where a module failed and where all passed
 module _ (area : List ℕ) (r : ℕ) (l : Lent) where
   pub failed_told : all (root_or_full area r l) (below l.modules) ≡ false → false ≡ refutes_in area r l
   unfolding refutes_in
