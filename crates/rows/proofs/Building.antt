@@ -82,9 +82,6 @@ pub record Passed (f : ℕ → Bool) (n k : ℕ) : Type 0 where
   pub same : all f (below n) ≡ all f (up_from k (n - k))
 
 module _ (f : ℕ → Bool) (n : ℕ) where
-  pub none_passed : Passed f n 0
-  none_passed = let z : n - 0 ≡ n = omega arith in record { within = omega arith; same = rw z }
-
   module _ {k : ℕ} (p : Passed f n k) where
     next : k < n → all f (below n) ≡ (f k && all f (up_from (k + 1) (n - (k + 1))))
     unfolding all up_from

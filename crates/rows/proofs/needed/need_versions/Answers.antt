@@ -10,7 +10,8 @@ use Rattle.rows.proofs.needed.need_versions.Goals as goal
 pub returns-then-not-eq : goal.returns-then-not-eq
 returns-then-not-eq c =
     let given = c.args in
-    word_unnamed (lent_of given.lent.now) given.need given.m.0 (names_told given.need given.m.0 c.eq.ensures c.eq-2.ensures c.if-not-eq.true)
+    let unnamed = names_told given.need given.m.0 c.eq.ensures c.eq-2.ensures c.if-not-eq.true in
+    word_unnamed (lent_of given.lent.now) given.need given.m.0 unnamed
     (ap (λ (s : Span). s.count) c.versions_of-places.ensures) c.all_bits.ensures
 
 pub loop-k-init : goal.loop-k-init
@@ -30,6 +31,6 @@ overflow_add-word c =
 pub loop-k-preserved : goal.loop-k-preserved
 loop-k-preserved c =
     let given = c.args in
+    let named = names_told given.need given.m.0 c.eq.ensures c.eq-2.ensures c.if-not-eq.false in
     bit_built _ _ _ c.loop-k.invariant c.loop-k-test.true refl
-    (bit_named (lent_of given.lent.now) given.need given.m.0 (names_told given.need given.m.0 c.eq.ensures c.eq-2.ensures c.if-not-eq.false) _ c.named_bit-bit.ensures)
-    c.digit_of.ensures
+    (bit_named (lent_of given.lent.now) given.need given.m.0 named _ c.named_bit-bit.ensures) c.digit_of.ensures
