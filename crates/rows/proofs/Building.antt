@@ -1,14 +1,16 @@
--- Words built from the last bit down, bits read by halving, and tests over all modules: what holds at each turn of a loop, and the loop's lemmas.
+-- Words built from the last bit down, bits read by a shift, and tests over all modules: what holds at each turn of a loop, and the loop's lemmas.
 -- Assumes nothing.
-use mathlib.Core.Path.{◌≡◌, refl, ◌∙◌, ap, ap₂}
+use mathlib.Core.Path.{◌≡◌, refl, sym, ◌∙◌, ap, ap₂}
 use mathlib.Core.Bool.{Bool, true, false, ◌&&◌}
 use Prim.Native.Nat.{ℕ, zero, suc, ◌+◌, ◌*◌, ◌-◌, ◌/◌, ◌%◌, ◌^◌, ◌≤◌, ◌<◌}
 use native.Mathlib.Omega.{arith}
-use native.Mathlib.Numerals.{add-one, unary_clauses}
-use native.Mathlib.Nat.{not-suc-le-zero, pow-suc, min-le_right, lt_of_lt_of_le}
+use native.Mathlib.Numerals.{add-one}
+use native.Mathlib.Nat.{pow-suc, min-le_right, lt_of_lt_of_le, mul_comm, div-eq_of_lt, div-div-eq-div-mul}
 use lib.Arith.{digits_lt}
+use lib.Bits.{bit_and}
 use lib.Dec.{eqb}
 use lib.Pow.{pow_mono}
+use Rattle.std.proofs.lemmas.Nat.{and_mask}
 use Rattle.rules.specs.Lists.{all, up_from, below}
 use Rattle.rows.specs.Bits.{digit, has_bit, bits_of, in_word}
 
@@ -58,21 +60,21 @@ module _ (f : ℕ → Bool) (first count : ℕ) where
         let after : suc (first + (k - 1)) ≡ first + k = omega arith in
         record { within = omega (arith, b.within); same = rw (s, after, b.same, n, h, e) }
 
-    pub all_built : {i n : ℕ} → k ≤ 0 → first ≡ i → count ≡ n → word ≡ bits_of f i n
-    all_built {i} {n} l p q =
-        let starts : first + k ≡ i = omega arith in
-        let whole : count - k ≡ n = omega arith in
-        b.same ∙ rw (starts, whole)
-
--- A BIT READ BY HALVING
-pub bit_half : (x k : ℕ) → 0 < k → has_bit x k ≡ has_bit (x / 2) (k - 1)
+-- A BIT READ BY A SHIFT
+bit_of_half : (x k : ℕ) → has_bit x k ≡ eqb (x / 2 ^ k % 2) 1
 unfolding has_bit
-bit_half x zero l = absurd (not-suc-le-zero l)
-bit_half x (suc k) l = simp unary_clauses
+bit_of_half x zero = let e : x / 2 ^ 0 ≡ x = omega arith in rw e
+bit_of_half x (suc k) =
+    bit_of_half (x / 2) k ∙ ap (λ (y : ℕ). eqb (y % 2) 1) (div-div-eq-div-mul x 2 (2 ^ k) ∙ ap (λ (n : ℕ). x / n) (mul_comm 2 (2 ^ k) ∙ sym (pow-suc 2 k)))
 
-pub bit_last : (x k : ℕ) → k ≤ 0 → eqb (x % 2) 1 ≡ has_bit x k
-unfolding has_bit
-bit_last x k l = let z : k ≡ 0 = omega arith in rw z
+pub bit_shifted : (x k : ℕ) → eqb (bit_and (x / 2 ^ k) 1) 1 ≡ has_bit x k
+bit_shifted x k = ap (λ (y : ℕ). eqb y 1) (and_mask (x / 2 ^ k) 1) ∙ sym (bit_of_half x k)
+
+-- a word has no bit past its last
+pub bit_past : (x k : ℕ) → x < 4294967296 → 32 ≤ k → false ≡ has_bit x k
+bit_past x k l h =
+    let z : x / 2 ^ k ≡ 0 = div-eq_of_lt (lt_of_lt_of_le l (pow_mono {i = 32} {j = k} h)) in
+    sym (bit_of_half x k ∙ ap (λ (y : ℕ). eqb (y % 2) 1) z)
 
 -- PASSED SO FAR: the test of all numbers below n comes to the test of those from k on
 pub record Passed (f : ℕ → Bool) (n k : ℕ) : Type 0 where
@@ -80,9 +82,6 @@ pub record Passed (f : ℕ → Bool) (n k : ℕ) : Type 0 where
   pub same : all f (below n) ≡ all f (up_from k (n - k))
 
 module _ (f : ℕ → Bool) (n : ℕ) where
-  pub none_passed : Passed f n 0
-  none_passed = let z : n - 0 ≡ n = omega arith in record { within = omega arith; same = rw z }
-
   module _ {k : ℕ} (p : Passed f n k) where
     next : k < n → all f (below n) ≡ (f k && all f (up_from (k + 1) (n - (k + 1))))
     unfolding all up_from

@@ -9,7 +9,9 @@ use lib.ListN.{get_or}
 use Rattle.rules.specs.Catalogue.{Catalogue, version_at_place, need_at, needy_of, is_within, in_range}
 use Rattle.rules.specs.Sheet.{need_line}
 use Rattle.rules.proofs.Lists.{cond_true, cond_false}
-use Rattle.store.specs.Tables.{Tables, Holds}
+use Rattle.store.specs.Tables.{Holds}
+use Rattle.store.specs.declared.tables.Tables.{Tables}
+use Rattle.store.specs.Lent.{Lent, lent_by}
 use Rattle.rows.specs.Bits.{has_bit}
 use Rattle.rows.specs.Area.{absent_word}
 use Rattle.rows.specs.Needed.{cited_in, need_bit, need_versions, need_word}
@@ -35,9 +37,12 @@ absent_test false true h = refl
 absent_test false false h = refl
 
 module _ (t : Tables) (c : Catalogue) (holds : Holds t c) (k : ℕ) where
-  -- the need as the tables have it
+  -- the tables as they are lent, and the need as they have it
+  abbrev tables : Lent
+  tables = lent_by t c.modules
+
   abbrev need : Cited
-  need = cited_in t.owners t.needies t.targets t.lows t.highs k
+  need = cited_in tables k
 
   needy_is : need.needy.0 ≡ needy_of c k
   needy_is = holds.owners (get_or t.needies k 0) ∙ ap (λ (i : ℕ). (version_at_place c i).owner) (holds.needies k)
@@ -47,7 +52,7 @@ module _ (t : Tables) (c : Catalogue) (holds : Holds t c) (k : ℕ) where
   outside_same i = rw (holds.lows k, holds.highs k, holds.values i)
 
   -- a version is in the set by the tables just if it is by the rules
-  version_in_lem : (m i : ℕ) → need_bit t.values need m i ≡ need_line c k m (suc i)
+  version_in_lem : (m i : ℕ) → need_bit tables need m i ≡ need_line c k m (suc i)
   unfolding need_line
   version_in_lem m i =
       same_test (ap (eqb m) needy_is) (ap (eqb i) (holds.needies k) ∙ sym (eqb-suc-suc i (need_at c k).version)) (ap (eqb m) (holds.targets k))
@@ -65,10 +70,10 @@ module _ (t : Tables) (c : Catalogue) (holds : Holds t c) (k : ℕ) where
     absent = absent_word c.modules
 
     abbrev word : ℕ → ℕ
-    word = need_word t.values t.firsts t.counts absent need
+    word = need_word tables absent need
 
     -- a module's word is no word of absent
-    word_is : (m : ℕ) → m < c.modules → word m ≡ need_versions t.values t.firsts t.counts need m
+    word_is : (m : ℕ) → m < c.modules → word m ≡ need_versions tables need m
     word_is m l = cond_false _ _ (ne_eqb m absent (λ e. omega (arith, before_absent narrow l)))
 
     absent_bit : (m : ℕ) → m < c.modules → has_bit (word absent) m ≡ need_line c k m 0
@@ -80,13 +85,13 @@ module _ (t : Tables) (c : Catalogue) (holds : Holds t c) (k : ℕ) where
     version_bit : (m j : ℕ) → m < c.modules → j < get_or t.counts m 0 → has_bit (word m) j ≡ need_line c k m (suc (get_or t.firsts m 0 + j))
     version_bit m j l i =
         ap (λ (x : ℕ). has_bit x j) (word_is m l) ∙
-        built_bit (need_bit t.values need m) (get_or t.firsts m 0) (get_or t.counts m 0) j (narrow.versions m) i ∙
+        built_bit (need_bit tables need m) (get_or t.firsts m 0) (get_or t.counts m 0) j (narrow.versions m) i ∙
         version_in_lem m (get_or t.firsts m 0 + j)
 
     no_version_bit : (m j : ℕ) → m < c.modules → get_or t.counts m 0 ≤ j → has_bit (word m) j ≡ false
     no_version_bit m j l i =
         ap (λ (x : ℕ). has_bit x j) (word_is m l) ∙
-        no_built_bit (need_bit t.values need m) (get_or t.firsts m 0) (get_or t.counts m 0) j (narrow.versions m) i
+        no_built_bit (need_bit tables need m) (get_or t.firsts m 0) (get_or t.counts m 0) j (narrow.versions m) i
 
 -- THE LAW
 pub need_stands : NeedStands

@@ -13,7 +13,9 @@ use Rattle.rules.specs.Catalogue.{Catalogue, WellFormed, places_of}
 use Rattle.rules.specs.Sheet.{Incompatibility, is_full, refutes}
 use Rattle.rules.proofs.Lists.{below_mem, length_up_from}
 use Rattle.rules.proofs.Partials.{root_fits_lem}
-use Rattle.store.specs.Tables.{Tables, Holds}
+use Rattle.store.specs.Tables.{Holds}
+use Rattle.store.specs.declared.tables.Tables.{Tables}
+use Rattle.store.specs.Lent.{lent_by}
 use Rattle.rows.specs.Bits.{has_bit, bits_of}
 use Rattle.rows.specs.Area.{word_at, absent_word}
 use Rattle.rows.specs.Derived.{is_full_in, refutes_in}
@@ -33,7 +35,7 @@ module _
     (area : List ℕ) (row : ℕ) (f : Incompatibility) (s : Stands t c area row f)
   where
     -- a module's set is full in the row just if it is by the rules
-    full_same : (m : ℕ) → m < c.modules → is_full_in area row (absent_word c.modules) t.counts m ≡ is_full c f m
+    full_same : (m : ℕ) → m < c.modules → is_full_in area row (absent_word c.modules) (lent_by t c.modules) m ≡ is_full c f m
     full_same m l =
         ap₂ (λ (a b : Bool). a && b) (s.absent m l)
         (ap (λ (n : ℕ). eqb (word_at area row m) (bits_of (λ i. true) 0 n)) (in_word_lem (get_or t.counts m 0) (narrow.versions m)) ∙
@@ -51,7 +53,7 @@ module _
         s.versions 0 0 (root_fits_lem c well) (omega (arith, root_count)) ∙ ap (λ (i : ℕ). f 0 (suc i)) (omega arith) ∙
         sym (ap (all (λ (i : ℕ). f 0 (suc i))) (holds.places 0 ∙ ap (up_from (get_or t.firsts 0 0)) root_count) ∙ and-true (f 0 (suc (get_or t.firsts 0 0))))
 
-    same_answer : refutes_in area row t.counts c.modules ≡ refutes c f
+    same_answer : refutes_in area row (lent_by t c.modules) ≡ refutes c f
     unfolding refutes_in refutes
     same_answer =
         ap₂ (λ (a b : Bool). a && b) root_same

@@ -8,7 +8,7 @@ use native.Mathlib.Nat.{min-eq_left}
 use borrow.Author.Tests.{lt-ltb, le-ltb}
 use lib.Dec.{ltb}
 use Rattle.rules.specs.Catalogue.{Catalogue}
-use Rattle.store.specs.Tables.{Tables}
+use Rattle.store.specs.declared.tables.Tables.{Tables}
 use Rattle.rows.specs.Bits.{has_bit, bits_of, in_word}
 use Rattle.rows.specs.Area.{word_at, with_row, absent_word}
 use Rattle.rows.specs.Stands.{HasRow, Narrow}

@@ -10,7 +10,7 @@ use lib.Arith.{mod-mul}
 use lib.ListN.{length, get_or, set, length-set}
 use lib.Seq.{get_or-set_same, get_or-set_other}
 use Rattle.rules.proofs.Lists.{same_or_not}
-use Rattle.rows.specs.Area.{byte_of, word_at, with_word, with_words, with_row, absent_word}
+use Rattle.rows.specs.Area.{byte_of, word_at, with_word, with_words, absent_word}
 use Rattle.rows.proofs.Building.{in_word_small}
 
 -- A WORD WRITTEN keeps the area's length
@@ -128,7 +128,7 @@ unfolding with_words
 none_filled old r g ms e = record { room = omega (arith, in_word_small ms); within = omega arith; size = refl; same = refl }
 
 module _ (old : List ℕ) (r : ℕ) (g : ℕ → ℕ) {w : ℕ} {area : List ℕ} {j : ℕ} (f : Filled old r g w area j) where
-  pub word_filled : {next : List ℕ} {x : ℕ} → j ≤ w → x ≡ g j → next ≡ with_word area r j x → Filled old r g w next (j + 1)
+  pub word_filled : {next : List ℕ} {x : ℕ} → j < w + 1 → x ≡ g j → next ≡ with_word area r j x → Filled old r g w next (j + 1)
   unfolding with_words
   word_filled {next} {x} h e s =
       record {
@@ -139,14 +139,7 @@ module _ (old : List ℕ) (r : ℕ) (g : ℕ → ℕ) {w : ℕ} {area : List ℕ
       }
 
   -- word j of any row is read as it was: it is not written yet
-  pub not_yet : (q : ℕ) → j ≤ w → word_at area q j ≡ word_at old q j
+  pub not_yet : (q : ℕ) → j < w + 1 → word_at area q j ≡ word_at old q j
   not_yet q h =
       ap (λ (l : List ℕ). word_at l q j) f.same ∙
       words_other old r g j q j (λ i l e. let same : q ≡ r = omega (arith, f.room) in omega arith)
-
--- the whole row, whose words go by which of them is the word of absent
-pub all_filled : (old : List ℕ) (r : ℕ) (g : (absent word : ℕ) → ℕ) (ms : ℕ) {w : ℕ} {area : List ℕ} {j : ℕ} → w ≡ absent_word ms →
-    Filled old r (g w) w area j → w < j → area ≡ with_row old r ms (g (absent_word ms))
-all_filled old r g ms {w} {j = j} e f h =
-    let whole : j ≡ suc w = omega (arith, f.within) in
-    f.same ∙ ap (with_words old r (g w)) whole ∙ ap (λ (k : ℕ). with_words old r (g k) (suc k)) e

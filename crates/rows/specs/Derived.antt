@@ -2,6 +2,7 @@
 use Rattle.std.specs.Prelude.{Bool, ◌&&◌, ◌||◌, cond, List, ℕ, eqb, get_or}
 use Rattle.std.specs.Int.Bits.{bit_and, bit_or}
 use Rattle.rules.specs.Lists.{all, below}
+use Rattle.store.specs.Lent.{Lent}
 use Rattle.rows.specs.Bits.{has_bit, all_bits, one_bit}
 use Rattle.rows.specs.Area.{word_at, with_row, absent_word}
 
@@ -18,9 +19,9 @@ abbrev pub resolved_row : (area : List ℕ) → (row modules one other at : ℕ)
 resolved_row l r ms a b m = with_row l r ms (λ j. resolved_word (absent_word ms) m (word_at l a j) (word_at l b j) j)
 
 -- a module's set has absent and every version; word `absent` is the word of absent
-abbrev pub is_full_in : (area : List ℕ) → (row absent : ℕ) → (counts : List ℕ) → (owner : ℕ) → Bool
-is_full_in l r w ns m = has_bit (word_at l r w) m && eqb (word_at l r m) (all_bits (get_or ns m 0))
+abbrev pub is_full_in : (area : List ℕ) → (row absent : ℕ) → Lent → (owner : ℕ) → Bool
+is_full_in a r w l m = has_bit (word_at a r w) m && eqb (word_at a r m) (all_bits (get_or l.counts m 0))
 
 -- "the root's set contains the root's version and every other set is full"
-unfoldable pub refutes_in : (area : List ℕ) → (row : ℕ) → (counts : List ℕ) → (modules : ℕ) → Bool
-refutes_in l r ns ms = has_bit (word_at l r 0) 0 && all (λ (m : ℕ). eqb m 0 || is_full_in l r (absent_word ms) ns m) (below ms)
+unfoldable pub refutes_in : (area : List ℕ) → (row : ℕ) → Lent → Bool
+refutes_in a r l = has_bit (word_at a r 0) 0 && all (λ (m : ℕ). eqb m 0 || is_full_in a r (absent_word l.modules) l m) (below l.modules)

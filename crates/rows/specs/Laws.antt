@@ -2,7 +2,9 @@
 use Rattle.std.specs.Prelude.{◌≡◌, ◌≢◌, List, ℕ}
 use Rattle.rules.specs.Catalogue.{Catalogue, WellFormed}
 use Rattle.rules.specs.Sheet.{Incompatibility, need_line, resolved, refutes}
-use Rattle.store.specs.Tables.{Tables, Holds}
+use Rattle.store.specs.Tables.{Holds}
+use Rattle.store.specs.declared.tables.Tables.{Tables}
+use Rattle.store.specs.Lent.{lent_by}
 use Rattle.rows.specs.Area.{with_row}
 use Rattle.rows.specs.Needed.{need_row}
 use Rattle.rows.specs.Derived.{resolved_row, refutes_in}
@@ -11,9 +13,7 @@ use Rattle.rows.specs.Stands.{Stands, HasRow, Narrow}
 -- the row of need line k stands for it
 abbrev pub NeedStands : Type 0
 NeedStands = (t : Tables) (c : Catalogue) → Holds t c → Narrow t c → (area : List ℕ) (row number : ℕ) → HasRow area row →
-    Stands t c
-    (need_row area row t.values t.owners t.firsts t.counts t.needies t.targets t.lows t.highs c.modules number)
-    row (need_line c number)
+    Stands t c (need_row area row (lent_by t c.modules) number) row (need_line c number)
 
 -- the row of a resolved line stands for it, where the rows of both earlier lines stand for those
 abbrev pub ResolvedStands : Type 0
@@ -29,4 +29,4 @@ OthersKept = (t : Tables) (c : Catalogue) → Narrow t c → (area : List ℕ) (
 -- a row refutes just if the incompatibility that it stands for does
 abbrev pub RefutesLaw : Type 0
 RefutesLaw = (t : Tables) (c : Catalogue) → Holds t c → WellFormed c → Narrow t c → (area : List ℕ) (row : ℕ) (f : Incompatibility) →
-    Stands t c area row f → refutes_in area row t.counts c.modules ≡ refutes c f
+    Stands t c area row f → refutes_in area row (lent_by t c.modules) ≡ refutes c f

@@ -2,7 +2,7 @@
 use Rattle.std.specs.Prelude.{◌≡◌, false, List, ℕ, suc, ◌+◌, ◌*◌, ◌≤◌, ◌<◌, length, get_or}
 use Rattle.rules.specs.Catalogue.{Catalogue}
 use Rattle.rules.specs.Sheet.{Incompatibility}
-use Rattle.store.specs.Tables.{Tables}
+use Rattle.store.specs.declared.tables.Tables.{Tables}
 use Rattle.rows.specs.Bits.{has_bit}
 use Rattle.rows.specs.Area.{word_at, absent_word}
 

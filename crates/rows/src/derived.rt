@@ -1,10 +1,12 @@
 // The row of a resolved line: the union at one module, the intersection everywhere else; and the test that a row refutes.
 ghost use Rattle.std.specs.Prelude.{◌≡◌};
+ghost use Rattle.store.specs.Lent.{lent_of};
 ghost use Rattle.rows.specs.Derived.{resolved_word, resolved_row, is_full_in, refutes_in};
 
 use crate::{area, bits};
+use frames::access::at;
 use frames::numbers::ModuleNo;
-use store::access;
+use store::lent::Lent;
 
 // Word j of a line resolved at module m, from that word of both lines. The word of absent is word `absent`.
 fn resolved_word(absent: u16, m: ModuleNo, x: u32, y: u32, j: u16) -> u32
@@ -24,38 +26,33 @@ pub fn resolved_row(work: &mut [u8], row: u16, modules: u16, a: u16, b: u16, m: 
     ensures { work.new ≡ resolved_row work.old row modules a b m.0 }
 {
     let absent = area::absent_word(modules);
-    let mut j: u16 = 0;
-    while j <= absent {
+    for j in 0..absent + 1 {
         let x = area::word_at(work, a, j);
         let y = area::word_at(work, b, j);
         area::put_word(work, row, j, resolved_word(absent, m, x, y, j));
-        j += 1;
     }
 }
 
 // A module's set has absent and every version. The word of absent is word `absent`.
-fn is_full<'a>(work: &'a [u8], row: u16, absent: u16, counts: &'a [u16], m: ModuleNo) -> bool
-    ensures { result ≡ is_full_in work.now row absent counts.now m.0 }
+fn is_full(work: &[u8], row: u16, absent: u16, lent: &Lent, m: ModuleNo) -> bool
+    ensures { result ≡ is_full_in work.now row absent (lent_of lent.now) m.0 }
 {
     let has_absent = bits::has_bit(area::word_at(work, row, absent), m.0);
-    let count = access::half_at(counts, m.0 as usize);
-    let all = bits::all_bits(count);
+    let all = bits::all_bits(at(lent.counts, m.0 as usize, 0));
     has_absent & (area::word_at(work, row, m.0) == all)
 }
 
 // The root's set has the root's version, its only one, and every other module's set is full.
-pub fn refutes<'a>(work: &'a [u8], row: u16, counts: &'a [u16], modules: u16) -> bool
-    ensures { result ≡ refutes_in work.now row counts.now modules }
+pub fn refutes(work: &[u8], row: u16, lent: &Lent) -> bool
+    ensures { result ≡ refutes_in work.now row (lent_of lent.now) }
 {
     let root = bits::has_bit(area::word_at(work, row, 0), 0);
-    let absent = area::absent_word(modules);
-    let mut m: u16 = 0;
-    while m < modules {
-        let full = is_full(work, row, absent, counts, ModuleNo(m));
+    let absent = area::absent_word(lent.modules);
+    for m in 0..lent.modules {
+        let full = is_full(work, row, absent, lent, ModuleNo(m));
         if !((m == 0) | full) {
             return false;
         }
-        m += 1;
     }
     root
 }

@@ -14,7 +14,8 @@ use Rattle.rules.specs.Frames.{frame_text, version_bytes}
 use Rattle.rules.specs.Catalogue.{Catalogue, Carried, version_at_place}
 use Rattle.rules.specs.Selection.{settled, selected_line, selection_text}
 use Rattle.rules.proofs.Lists.{keep_mem, below_mem}
-use Rattle.store.specs.Tables.{Tables, Holds}
+use Rattle.store.specs.Tables.{Holds}
+use Rattle.store.specs.declared.tables.Tables.{Tables}
 use Rattle.selection.specs.Written.{settled_in, line_of, line_in, end_line, text_in}
 use Rattle.selection.proofs.Whole.{settled_few}
 

@@ -1,5 +1,5 @@
 -- Turns of the loops over modules: what holds at each turn of a count and of the writing of lines, and the lemmas of the loops. Assumes nothing.
-use mathlib.Core.Path.{◌≡◌, refl, sym, ◌∙◌, ap}
+use mathlib.Core.Path.{◌≡◌, sym, ◌∙◌, ap}
 use mathlib.Core.Bool.{Bool, true, false}
 use mathlib.Core.List.{List, [], ◌∷◌, flat_map}
 use Prim.Native.Nat.{ℕ, suc, ◌+◌, ◌*◌, ◌-◌, ◌≤◌, ◌<◌}
@@ -53,9 +53,6 @@ pub record Counted (f : ℕ → Bool) (n count k : ℕ) : Type 0 where
   pub total : count + length (rest f n k) ≡ length (keep f (below n))
 
 module _ (f : ℕ → Bool) (n : ℕ) where
-  pub none_counted : Counted f n 0 0
-  none_counted = let z : n - 0 ≡ n = omega arith in record { within = omega arith; few = omega arith; total = rw z (omega arith) }
-
   module _ {count k : ℕ} (h : Counted f n count k) where
     pub counts : {next : ℕ} → k < n → f k ≡ true → next ≡ count + 1 → Counted f n next (k + 1)
     counts l e s =
@@ -80,9 +77,6 @@ pub record Lines (f : ℕ → Bool) (line : ℕ → List ℕ) (old : List ℕ) (
   pub total : sets area end (flat_map line (rest f n k)) ≡ sets old start (flat_map line (keep f (below n)))
 
 module _ (f : ℕ → Bool) (line : ℕ → List ℕ) (old : List ℕ) (start n : ℕ) where
-  pub none_written : Lines f line old start n old start 0
-  none_written = let z : n - 0 ≡ n = omega arith in record { within = omega arith; size = refl; ends = rw z; total = rw z }
-
   module _ {area : List ℕ} {end k : ℕ} (h : Lines f line old start n area end k) where
     -- there is room for the line of one more
     pub has_room : k < n → f k ≡ true → end + 13 ≤ start + 13 * length (keep f (below n))

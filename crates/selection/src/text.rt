@@ -5,21 +5,18 @@ ghost use Rattle.std.proofs.lemmas.List.Edits.{sets};
 ghost use Rattle.selection.specs.Written.{settled_in, line_of, line_in, text_in};
 
 use frames::numbers::{ModuleNo, Version};
-use frames::written;
-use store::access;
+use frames::{access, written};
 
 // How many of the first modules have a version chosen.
 pub fn count_settled(chosen: &[u16], modules: u16) -> u16
     ensures { result ≡ length (settled_in chosen.now modules) }
 {
     let mut count: u16 = 0;
-    let mut k: u16 = 0;
-    while k < modules {
-        let state = access::half_at(chosen, k as usize);
+    for k in 0..modules {
+        let state = access::at(chosen, k as usize, 0);
         if 0 < state {
             count += 1;
         }
-        k += 1;
     }
     count
 }
@@ -30,13 +27,8 @@ pub fn write_selected(out: &mut [u8], at: usize, m: ModuleNo, v: Version) -> usi
     ensures size { result ≡ at + 13 }
     ensures area { out.new ≡ sets out.old at (line_of m.0 v.0) }
 {
-    let line: [u8; 5] = [
-        18,
-        (m.0 % 256) as u8,
-        (v.0 / 65536 % 256) as u8,
-        (v.0 / 256 % 256) as u8,
-        (v.0 % 256) as u8,
-    ];
+    let [_, major, minor, patch] = v.0.to_be_bytes();
+    let line = [18, (m.0 % 256) as u8, major, minor, patch];
     written::write_frame(out, at, &line)
 }
 
@@ -54,14 +46,12 @@ pub fn write_all<'a>(
         (flat_map (line_in values.now chosen.now) (settled_in chosen.now modules)) }
 {
     let mut end = at;
-    let mut k: u16 = 0;
-    while k < modules {
-        let state = access::half_at(chosen, k as usize);
+    for k in 0..modules {
+        let state = access::at(chosen, k as usize, 0);
         if 0 < state {
-            let v = access::word_at(values, (state - 1) as usize);
+            let v = access::at(values, (state - 1) as usize, 0);
             end = write_selected(out, end, ModuleNo(k), Version(v));
         }
-        k += 1;
     }
     end
 }

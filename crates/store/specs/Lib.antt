@@ -2,3 +2,4 @@
 pub mod Frame
 pub mod Tables
 pub mod Tidy
+pub mod Lent

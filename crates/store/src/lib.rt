@@ -2,6 +2,7 @@
 #![tactic(auto)]
 
 pub mod frame;
+pub mod lent;
 pub mod limits;
 pub mod lookup;
 pub mod tables;

@@ -3,9 +3,9 @@ use borrow.Author.Rules.{rules}
 use Rattle.rows.specs.Area.{word_at}
 use Rattle.rows.proofs.area.word_at.Goals as goal
 
-pub returns-then-at-area : goal.returns-then-at-area
+pub returns-then-i-area : goal.returns-then-i-area
 unfolding word_at
-returns-then-at-area c = search rules
+returns-then-i-area c = search rules
 
 pub returns : goal.returns
 unfolding word_at

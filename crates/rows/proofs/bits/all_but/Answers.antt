@@ -8,7 +8,7 @@ use Rattle.rows.proofs.Building.{digit_small, in_word_small, none_built, has_roo
 use Rattle.rows.proofs.bits.all_but.Goals as goal
 
 pub loop-k-init : goal.loop-k-init
-loop-k-init c = none_built _ _ _ c.in_word-k.ensures
+loop-k-init c = none_built _ _ _ c.in_word-bits.ensures
 
 pub overflow_mul-word : goal.overflow_mul-word
 overflow_mul-word c =
@@ -17,9 +17,8 @@ overflow_mul-word c =
 
 pub overflow_add-word : goal.overflow_add-word
 overflow_add-word c =
-    let given = c.args in
-    let room = has_room _ _ _ c.loop-k.invariant c.loop-k-test.true (in_word_small given.count) in
-    let bit = digit_small (not (eqb (c.loop-k.k - 1) given.at)) in
+    let room = has_room _ _ _ c.loop-k.invariant c.loop-k-test.true (in_word_small c.args.count) in
+    let bit = digit_small (not (eqb (c.loop-k.k - 1) c.args.at)) in
     omega arith
 
 pub loop-k-preserved : goal.loop-k-preserved

@@ -7,6 +7,3 @@ use Rattle.rows.proofs.bits.all_but.Given as goal
 
 abbrev pub invariant-loop-k : goal.invariant-loop-k
 invariant-loop-k l = Built (λ i. not (eqb i l.at)) 0 (in_word l.count) l.word l.k
-
-abbrev pub decreases-loop-k : goal.decreases-loop-k
-decreases-loop-k l = l.k

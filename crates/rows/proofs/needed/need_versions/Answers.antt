@@ -1,20 +1,21 @@
 -- `rows::needed::need_versions` meets its contract. Assumes nothing.
 use mathlib.Core.Path.{refl, ap}
-use mathlib.Core.Bool.{not}
 use native.Mathlib.Omega.{arith}
+use Rattle.store.specs.Lent.{lent_of}
 use Rattle.store.specs.declared.lookup.Span.{Span}
 use Rattle.rows.proofs.Building.{digit_small, in_word_small, none_built, has_room, bit_built}
-use Rattle.rows.proofs.Told.{word_unnamed, bit_named}
+use Rattle.rows.proofs.Told.{names_told, word_unnamed, bit_named}
 use Rattle.rows.proofs.needed.need_versions.Goals as goal
 
-pub returns-then-not-m-needy : goal.returns-then-not-m-needy
-returns-then-not-m-needy c =
+pub returns-then-not-eq : goal.returns-then-not-eq
+returns-then-not-eq c =
     let given = c.args in
-    word_unnamed given.values.now given.need given.m.0 (ap not c.if-not-m-needy.true) given.firsts.now given.counts.now
+    let unnamed = names_told given.need given.m.0 c.eq.ensures c.eq-2.ensures c.if-not-eq.true in
+    word_unnamed (lent_of given.lent.now) given.need given.m.0 unnamed
     (ap (λ (s : Span). s.count) c.versions_of-places.ensures) c.all_bits.ensures
 
 pub loop-k-init : goal.loop-k-init
-loop-k-init c = none_built _ _ _ c.in_word-k.ensures
+loop-k-init c = none_built _ _ _ c.in_word-count.ensures
 
 pub overflow_mul-word : goal.overflow_mul-word
 overflow_mul-word c =
@@ -30,5 +31,6 @@ overflow_add-word c =
 pub loop-k-preserved : goal.loop-k-preserved
 loop-k-preserved c =
     let given = c.args in
+    let named = names_told given.need given.m.0 c.eq.ensures c.eq-2.ensures c.if-not-eq.false in
     bit_built _ _ _ c.loop-k.invariant c.loop-k-test.true refl
-    (bit_named given.values.now given.need given.m.0 (ap not c.if-not-m-needy.false) _ c.named_bit-bit.ensures) c.digit_of.ensures
+    (bit_named (lent_of given.lent.now) given.need given.m.0 named _ c.named_bit-bit.ensures) c.digit_of.ensures

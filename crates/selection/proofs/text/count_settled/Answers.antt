@@ -8,7 +8,7 @@ loop-k-preserved c =
     let so_far = c.loop-k.invariant in
     let chosen = c.args.chosen.now in
     let k = c.loop-k.k in
-    let state = c.half_at-state.ensures in
+    let state = c.at-state.ensures in
     elim c.if-state-gt0.branch [
       | then-state-gt0 w ↦ counts _ _ so_far c.loop-k-test.true (settled_yes chosen k state w.if-state-gt0.true) w.count-is
       | else-state-gt0 w ↦ passes _ _ so_far c.loop-k-test.true (settled_no chosen k state w.if-state-gt0.false) w.count-is

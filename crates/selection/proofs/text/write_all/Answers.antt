@@ -11,7 +11,7 @@ pub write_selected-end-requires : goal.write_selected-end-requires
 write_selected-end-requires c =
     let given = c.args in
     let room = has_room _ _ _ _ _ c.loop-k.invariant c.loop-k-test.true
-    (settled_yes given.chosen.now _ c.half_at-state.ensures c.if-state-gt0.true) in
+    (settled_yes given.chosen.now _ c.at-state.ensures c.if-state-gt0.true) in
     omega (arith, c.loop-k.invariant.size)
 
 pub loop-k-preserved : goal.loop-k-preserved
@@ -21,11 +21,11 @@ loop-k-preserved c =
     let given = c.args in
     let vs = given.values.now in
     let ch = given.chosen.now in
-    let state = c.half_at-state.ensures in
+    let state = c.at-state.ensures in
     elim c.if-state-gt0.branch [
       | then-state-gt0 w ↦
           line_written _ _ _ _ _ so_far inside (settled_yes ch _ state w.if-state-gt0.true) (line_length vs ch _) (w.end-is ∙ w.write_selected-end.ensures.size)
-          (w.out-is ∙ w.write_selected-end.ensures.area ∙ ap (sets _ _) (line_read ch _ state vs w.word_at-v.ensures))
+          (w.out-is ∙ w.write_selected-end.ensures.area ∙ ap (sets _ _) (line_read ch _ state vs w.at-v.ensures))
       | else-state-gt0 w ↦ line_left_out _ _ _ _ _ so_far inside (settled_no ch _ state w.if-state-gt0.false) w.end-is w.out-is
     ]
 

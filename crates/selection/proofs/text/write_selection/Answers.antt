@@ -19,6 +19,6 @@ returns c =
     let head = c.write_frame-start.ensures in
     let lines = c.write_all-end.ensures in
     let last = c.write_frame.ensures in
-    let stored = text_stored given.values.now given.chosen.now given.modules given.out.now c.count_settled-count.ensures head.size head.area lines.size lines.area
-    last.size last.area in
+    let stored = text_stored given.values.now given.chosen.now given.modules given.out.now c.count_settled-count.ensures head.size head.area
+    lines.size lines.area last.size last.area in
     record { size = stored.0; area = stored.1 }
