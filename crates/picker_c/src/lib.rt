@@ -16,11 +16,10 @@ const CATALOGUE: u8 = 1;
 fn text_of(number: u8) -> u8
     ensures { result ≡ text_of number }
 {
-    let refused = (1 <= number) & (number <= 8);
-    if refused {
-        return CATALOGUE;
+    match number {
+        1..=8 => CATALOGUE,
+        _ => NEITHER,
     }
-    NEITHER
 }
 
 // A number, the text at fault, a line, a place and a length in one number, from the highest byte down.
