@@ -1,4 +1,4 @@
-// A lent area is cleared.
+// Lent areas: all bytes made 0.
 ghost use Rattle.std.specs.Prelude.{◌≡◌};
 ghost use Rattle.picker.specs.Entry.{zeroed};
 
