@@ -31,7 +31,7 @@ use Rattle.picker.specs.Entry.{selection_least, sheet_least, work_least, areas_f
 use Rattle.picker.specs.Entry.{SheetWritten, SheetOwes, OutcomeOwes, ReadOwes, PickOwes}
 use Rattle.picker.specs.Inside.{HasRoom, search_of}
 use Rattle.picker.specs.Written.{sheet_in}
-use Rattle.picker.proofs.Turns.{stored_over}
+use Rattle.picker.proofs.Stored.{stored_over}
 use Rattle.picker.proofs.Sheets.{sheet_length, sheet_is_the_rules, lines_short}
 use Rattle.picker.proofs.Readings.{ReadWell, told_is, read_fine, read_well}
 use Rattle.picker.proofs.Outcomes.{sheet_lines, SheetLeft, found_best, found_none, over_small, sheet_left}

@@ -1,5 +1,5 @@
 -- Lemmas that the proofs of this crate share, and what the ways out of a pick owe.
-pub mod Turns
+pub mod Stored
 pub mod Sheets
 pub mod Numbers
 pub mod Checks

@@ -27,7 +27,7 @@ use Rattle.search.proofs.Searched.{ended, search_finds, search_fails, search_ove
 use Rattle.picker.specs.Entry.{work_least}
 use Rattle.picker.specs.Inside.{search_of}
 use Rattle.picker.proofs.Readings.{ReadWell}
-use Rattle.picker.proofs.Turns.{stored_over}
+use Rattle.picker.proofs.Stored.{stored_over}
 use Rattle.picker.proofs.Sheets.{lines_short}
 
 -- the lines that a failing search leaves

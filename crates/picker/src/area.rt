@@ -1,30 +1,10 @@
-// Lent areas: all bytes made 0, and bytes copied from one area into another.
-ghost use Rattle.std.specs.Prelude.{◌≡◌, ◌+◌, ◌≤◌, length, take};
-ghost use Rattle.std.proofs.lemmas.List.Edits.{sets};
+// Lent areas: all bytes made 0.
+ghost use Rattle.std.specs.Prelude.{◌≡◌};
 ghost use Rattle.picker.specs.Entry.{zeroed};
 
 // Makes every byte of an area 0.
 pub fn clear(area: &mut [u8])
     ensures { area.new ≡ zeroed area.old }
 {
-    let mut i = 0;
-    while i < area.len() {
-        area[i] = 0;
-        i += 1;
-    }
-}
-
-// Copies the first bytes of a text into an area at a place; says where they end. Every other byte of the area stays.
-pub fn copy(out: &mut [u8], at: usize, text: &[u8], count: usize) -> usize
-    requires has { count ≤ length text.now }
-    requires room { at + count ≤ length out.old }
-    ensures size { result ≡ at + count }
-    ensures area { out.new ≡ sets out.old at (take count text.now) }
-{
-    let mut i = 0;
-    while i < count {
-        out[at + i] = text[i];
-        i += 1;
-    }
-    at + count
+    area.fill(0);
 }

@@ -3,7 +3,6 @@ ghost use Rattle.std.specs.Prelude.{◌≡◌, ◌+◌, ◌≤◌, length, take}
 ghost use Rattle.std.proofs.lemmas.List.Edits.{sets};
 ghost use Rattle.picker.specs.Written.{sheet_in};
 
-use crate::area;
 use frames::kinds::{SHEET_END, SHEET_HEAD};
 use frames::written;
 
@@ -14,9 +13,9 @@ pub fn write_sheet(out: &mut [u8], lines: &[u8], count: u16, end: usize) -> usiz
     ensures size { result ≡ length (sheet_in (take end lines.now) count) }
     ensures area { out.new ≡ sets out.old 0 (sheet_in (take end lines.now) count) }
 {
-    let head: [u8; 3] = [SHEET_HEAD, (count / 256 % 256) as u8, (count % 256) as u8];
-    let start = written::write_frame(out, 0, &head);
-    let stop = area::copy(out, start, lines, end);
-    let last: [u8; 1] = [SHEET_END];
-    written::write_frame(out, stop, &last)
+    let [high, low] = count.to_be_bytes();
+    let start = written::write_frame(out, 0, &[SHEET_HEAD, high, low]);
+    let stop = start + end;
+    out[start..stop].copy_from_slice(&lines[..end]);
+    written::write_frame(out, stop, &[SHEET_END])
 }

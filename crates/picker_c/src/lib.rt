@@ -16,21 +16,22 @@ const CATALOGUE: u8 = 1;
 fn text_of(number: u8) -> u8
     ensures { result ≡ text_of number }
 {
-    let refused = (1 <= number) & (number <= 8);
-    if refused {
-        return CATALOGUE;
+    match number {
+        1..=8 => CATALOGUE,
+        _ => NEITHER,
     }
-    NEITHER
 }
 
 // A number, the text at fault, a line, a place and a length in one number, from the highest byte down.
 fn pack(number: u8, text: u8, line: u32, place: u32, size: u32) -> u64
     ensures { result ≡ packed number text line place size }
 {
-    let first = number as u64 * 256 + text as u64;
-    let second = first * 65536 + line as u64 % 65536;
-    let third = second * 65536 + place as u64 % 65536;
-    third * 65536 + size as u64 % 65536
+    let [_, _, line_high, line_low] = line.to_be_bytes();
+    let [_, _, place_high, place_low] = place.to_be_bytes();
+    let [_, _, size_high, size_low] = size.to_be_bytes();
+    u64::from_be_bytes([
+        number, text, line_high, line_low, place_high, place_low, size_high, size_low,
+    ])
 }
 
 // A pick's answer, packed.

@@ -14,9 +14,9 @@ pub const TOLD_BYTES: usize = 11;
 pub fn told(number: u8, line: u32) -> [u8; TOLD_BYTES]
     ensures { result ≡ told_text number line }
 {
-    let mut out = [0u8; TOLD_BYTES];
-    let bytes = [TOLD, number, (line / 256 % 256) as u8, (line % 256) as u8];
-    written::write_frame(&mut out, 0, &bytes);
+    let mut out = [0; TOLD_BYTES];
+    let [_, _, high, low] = line.to_be_bytes();
+    written::write_frame(&mut out, 0, &[TOLD, number, high, low]);
     out
 }
 
@@ -24,11 +24,7 @@ pub fn told(number: u8, line: u32) -> [u8; TOLD_BYTES]
 fn start_of(text: &[u8], size: u32) -> &[u8]
     ensures { result.now ≡ take size text.now }
 {
-    let n = size as usize;
-    if text.len() < n {
-        return text;
-    }
-    &text[..n]
+    text.get(..size as usize).unwrap_or(text)
 }
 
 // The answer's text, out of the areas that a pick has filled.
@@ -41,11 +37,9 @@ pub fn text_of<'a>(
 ) -> &'a [u8]
     ensures { result.now ≡ answer_text number size selection.now sheet.now told.now }
 {
-    if number == SELECTED {
-        return start_of(selection, size);
+    match number {
+        SELECTED => start_of(selection, size),
+        REFUTED => start_of(sheet, size),
+        _ => told,
     }
-    if number == REFUTED {
-        return start_of(sheet, size);
-    }
-    told
 }

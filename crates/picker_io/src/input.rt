@@ -1,16 +1,16 @@
 // A text read to its end, also when it comes in pieces.
-ghost use Rattle.std.specs.Prelude.{◌≡◌, ◌≤◌, length};
+ghost use Rattle.std.specs.Prelude.{◌≡◌, length, MatchResult};
 ghost use Rattle.picker_io.specs.Input.{IsPrefixLen};
 
 use std::io;
 use std::io::Read;
 use store::limits::BYTES;
 
-// How many bytes came, and why a read failed, if one did.
+// Why a read failed, and how many bytes had come until then.
 #[derive(Drop)]
-pub struct Input {
+pub struct Failed {
     pub size: usize,
-    pub failure: Option<io::Error>,
+    pub error: io::Error,
 }
 
 // Room for the longest text and one byte more: a text that fills it is too long, and no more of it is read.
@@ -20,37 +20,17 @@ pub fn room() -> [u8; BYTES + 1]
     [0; BYTES + 1]
 }
 
-// Reads once, behind the bytes that have come: how many there are then, and whether the read failed.
-fn read_more<R: Read>(from: &mut R, text: &mut [u8], size: usize) -> Input
-    requires { size ≤ length text.old }
-    ensures { (size ≤ result.size) × (result.size ≤ length text.new) }
-{
-    match from.read(&mut text[size..]) {
-        Ok(more) => Input {
-            size: size + more,
-            failure: None,
-        },
-        Err(error) => Input {
-            size: size,
-            failure: Some(error),
-        },
-    }
-}
-
-// Reads until the text ends, a read fails or the room is full.
-pub fn read_all<R: Read>(from: &mut R, text: &mut [u8]) -> Input
-    ensures { IsPrefixLen result.size text.new }
+// Reads until the text ends, a read fails or the room is full; says how many bytes came.
+pub fn read_all<R: Read>(from: &mut R, text: &mut [u8]) -> Result<usize, Failed>
+    ensures { MatchResult result (λ size. IsPrefixLen size text.new) (λ failed. IsPrefixLen failed.size text.new) }
 {
     let mut size = 0;
     while size < text.len() {
-        let came = read_more(from, text, size);
-        if came.size == size {
-            return came;
+        match from.read(&mut text[size..]) {
+            Ok(0) => break,
+            Ok(more) => size += more,
+            Err(error) => return Err(Failed { size, error }),
         }
-        size = came.size;
     }
-    Input {
-        size: size,
-        failure: None,
-    }
+    Ok(size)
 }

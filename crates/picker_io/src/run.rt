@@ -27,12 +27,13 @@ pub fn fail<E: Eprint>(rt: &E, what: &str, error: io::Error) {
 // nothing is written to standard output.
 pub fn run<P: Print + Eprint, R: Read>(rt: &P, from: &mut R, name: &str) {
     let mut text = input::room();
-    let came = input::read_all(from, &mut text);
-    if let Some(error) = came.failure {
-        fail(rt, name, error);
-        return;
-    }
-    let size = came.size;
+    let size = match input::read_all(from, &mut text) {
+        Ok(size) => size,
+        Err(failed) => {
+            fail(rt, name, failed.error);
+            return;
+        }
+    };
     let mut selection = [0u8; SELECTION_LEAST];
     let mut sheet = [0u8; SHEET_LEAST];
     let mut work = [0u8; WORK_LEAST];

@@ -5,4 +5,4 @@ use Rattle.picker_io.proofs.Stored.{whole_stored}
 use Rattle.picker_io.proofs.answer.told.Goals as goal
 
 pub returns : goal.returns
-returns c = c.write_frame.ensures.area ∙ whole_stored _ _ (frame_length _)
+returns c = rw c.to_be_bytes.ensures at (c.write_frame.ensures.area ∙ whole_stored _ _ (frame_length _))
