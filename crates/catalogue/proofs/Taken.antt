@@ -14,6 +14,7 @@ use Rattle.rules.specs.Catalogue.{Reading, places_of, limits}
 use Rattle.rules.proofs.Lists.{and_snd}
 use Rattle.frames.specs.Kinds.{row_for}
 use Rattle.frames.specs.Texts.{Kept, FrameTaken}
+use Rattle.frames.proofs.Judged.{row_kind}
 use Rattle.store.specs.declared.frame.Last.{Last}
 use Rattle.store.specs.Frame.{Fields, State, state_of, state_told, last_of, fields_at, fields_by, frame_fault, after}
 use Rattle.store.specs.declared.tables.Tables.{Tables}
@@ -23,16 +24,6 @@ use Rattle.store.proofs.Faults.{fields_in, fault_law, after_law, bytes_fields}
 use Rattle.store.proofs.Kept.{reads_step, count_law, last_law}
 use Rattle.catalogue.specs.declared.reading.Catalogue.{Catalogue}
 use Rattle.catalogue.specs.Reading.{reader, StandsFor}
-
--- the row that is found for a kind is of that kind
-row_kind : (rs : List Rules.Kind) (t k : ℕ) → (row_in rs t k).kind ≡ k
-unfolding row_in
-row_kind [] t k = refl
-row_kind (r ∷ rs) t k = go (eqb r.text t && eqb r.kind k) refl (row_kind rs t k)
-  where
-    go : (b : Bool) → (eqb r.text t && eqb r.kind k) ≡ b → (row_in rs t k).kind ≡ k → (cond b r (row_in rs t k)).kind ≡ k
-    go true e h = eqb-true r.kind k (and_snd (eqb r.text t) _ e)
-    go false e h = h
 
 -- the fields that the code reads of the bytes it has kept, by the row of their kind
 abbrev pub fields_had : (bytes : List ℕ) → Fields

@@ -32,6 +32,16 @@ eqb_turned m n = ⊎_elim same other (true_or_false (eqb m n))
     other : eqb m n ≡ false → eqb m n ≡ eqb n m
     other e = e ∙ sym (ne_eqb n m (λ p. eqb-false m n e (sym p)))
 
+-- the row that is found for a kind is of that kind
+pub row_kind : (rs : List Rules.Kind) (t k : ℕ) → (row_in rs t k).kind ≡ k
+unfolding row_in
+row_kind [] t k = refl
+row_kind (r ∷ rs) t k = go (eqb r.text t && eqb r.kind k) refl (row_kind rs t k)
+  where
+    go : (b : Bool) → (eqb r.text t && eqb r.kind k) ≡ b → (row_in rs t k).kind ≡ k → (cond b r (row_in rs t k)).kind ≡ k
+    go true e h = eqb-true r.kind k (and_snd (eqb r.text t) _ e)
+    go false e h = h
+
 -- no row of the table has more digits than the longest frame
 rows_most : (rs : List Rules.Kind) (t k : ℕ) → all (λ (r : Rules.Kind). leb r.digits (2 * longest)) rs ≡ true → (row_in rs t k).digits ≤ 2 * longest
 unfolding row_in all

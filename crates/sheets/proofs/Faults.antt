@@ -15,9 +15,7 @@ use Rattle.rules.specs.Catalogue.{Catalogue}
 use Rattle.rules.specs.Sheet.{SheetReading, sheet_reader, sheet_order_fits, sheet_content_fits, with_sheet_frame}
 use Rattle.rules.proofs.Lists.{same_or_not, length_last}
 use Rattle.store.specs.Frame.{checks}
-use Rattle.sheets.specs.declared.frame.Fields.{Fields}
-use Rattle.sheets.specs.declared.frame.State.{State}
-use Rattle.sheets.specs.Frame.{state_of, fields_at, fields_in, frame_fault, after}
+use Rattle.sheets.specs.Frame.{Fields, State, state_of, fields_at, fields_in, frame_fault, after}
 
 -- THE KINDS of a sheet's frames
 pub data Known (kind : ℕ) : Type 0 where

@@ -1,62 +1,40 @@
--- A sheet's text judged: one that is too long is not read (`too_long`); of any other, the fault told after the lines and the area are those of the reader
--- over what is lent (`sheet_judged`). Assumes nothing.
-use mathlib.Core.Path.{◌≡◌, sym, ◌∙◌, ap}
-use mathlib.Core.Bool.{Bool}
+-- A sheet's text judged: the fault told and the area are those of the reader over what is lent (`sheet_judged`), from what the line loop owes of any text.
+-- Assumes nothing.
+use mathlib.Core.Path.{◌≡◌, refl, sym, ◌∙◌, ap}
+use mathlib.Core.Bool.{Bool, true, false, cond}
 use mathlib.Core.List.{List}
-use Prim.Native.Nat.{ℕ, ◌-◌, ◌≤◌, ◌<◌}
-use lib.Dec.{eqb}
+use Prim.Native.Nat.{ℕ}
+use native.Mathlib.Omega.{arith}
+use lib.Dec.{ltb}
 use lib.ListN.{length}
-use borrow.Author.Tests.{le-ltb, lt-ltb}
-use Rattle.rules.specs.Lines as Rules
-use Rattle.rules.specs.Lines.{fault, unless, lines_of}
-use Rattle.rules.specs.Frames.{read_from, read_text, fault_of}
+use Rattle.rules.specs.Lines.{Fault}
 use Rattle.rules.specs.Catalogue.{limits}
-use Rattle.frames.specs.Faults.{end_fault}
-use Rattle.frames.specs.declared.faults.Fault.{Fault}
-use Rattle.frames.proofs.Steps.{Stopped, stopped_fault}
-use Rattle.rows.specs.Derived.{refutes_in}
-use Rattle.sheets.specs.declared.reading.Lines.{Lines}
-use Rattle.sheets.specs.Reading.{Lent, Held, held, start, reader_in, LinesRead, fault_in, area_in, SheetJudged}
+use Rattle.frames.specs.Texts.{TextRead}
+use Rattle.store.specs.Lent.{Lent, lent_of}
+use Rattle.sheets.specs.declared.reading.SheetReader.{SheetReader}
+use Rattle.sheets.specs.Frame.{State, state_told}
+use Rattle.sheets.specs.Reading.{Held, held, start, reader, StandsFor, reached_in, SheetJudged}
 use Rattle.sheets.proofs.Judging.{judged_as_rules}
 
--- the two equations are all that is owed: the law of the rules follows from the first
-judged : (l : Lent) (needs : ℕ) (text area : List ℕ) {exit : List ℕ} {x : Rules.Fault} → x ≡ fault_in l needs text area → exit ≡ area_in l needs text area →
-    SheetJudged l needs text area exit x
-judged l needs text area p q = record { fault_is = p; area_is = q; as_rules = λ t c g. p ∙ judged_as_rules l needs text area t c g }
+-- before the first line
+pub begun : (s : SheetReader) → state_told s.state ≡ start → StandsFor s (held (lent_of s.lent) s.lent.needs start s.work.now)
+begun s e =
+    record {
+      held_is = ap (λ (x : State). held (lent_of s.lent) s.lent.needs x s.work.now) e;
+      few = let due = ap (λ (x : State). x.due) e in let lines = ap (λ (x : State). x.lines) e in omega (arith, due, lines);
+    }
 
-pub too_long : (l : Lent) (needs : ℕ) (text area : List ℕ) → limits.bytes < length text → SheetJudged l needs text area area (fault 1 0)
-unfolding read_text
-too_long l needs text area h =
-    judged l needs text area (rw (lt-ltb limits.bytes (length text) h)) (rw (lt-ltb limits.bytes (length text) h))
-
--- what the calls return after the lines: the last line's row, whether it refutes, the number for that, and the fault told
-pub record Got (exit counts : List ℕ) (modules : ℕ) (r : Lines) (row : ℕ) (refuted : Bool) (last : ℕ) (told : Fault) : Type 0 where
-  pub row_is : row ≡ r.state.lines - 1
-  pub refuted_is : refuted ≡ refutes_in exit row counts modules
-  pub last_is : last ≡ unless refuted 13
-  pub told_is : told ≡ end_fault r.number r.line (eqb r.state.stands 2) last
-
-module _ {l : Lent} {needs : ℕ} {text area exit : List ℕ} {r : Lines} (read : LinesRead l needs text area exit r)
-    {row : ℕ} {refuted : Bool} {last : ℕ} {told : Fault} (got : Got exit l.counts l.modules r row refuted last told)
-    (h : length text ≤ limits.bytes) where
-  fault_read : fault told.number told.line ≡ fault_in l needs text area
-  unfolding read_text
-  fault_read =
-      ap (λ (x : Fault). fault x.number x.line) same_end ∙
-      stopped_fault (reader_in l needs) (held r.state exit) r.number r.line stopped ∙
-      ap fault_of (sym in_time)
+module _ {l : Lent} {needs : ℕ} {text area exit : List ℕ} {s : SheetReader} {x : Fault} (same : s.work.now ≡ exit)
+    (r : TextRead reader StandsFor limits.bytes (held l needs start area) text s x) where
+  -- the two equations are all that is owed: the law of the rules follows from the first
+  pub sheet_judged : SheetJudged l needs text area exit x
+  sheet_judged =
+      record {
+        fault_is = r.fault_is;
+        area_is = sym same ∙ ap (λ (h : Held). h.area) r.reached.held_is ∙ at_end (ltb limits.bytes (length text));
+        as_rules = λ t c g. r.fault_is ∙ judged_as_rules l needs text area t c g;
+      }
     where
-      in_time : read_text (reader_in l needs) limits.bytes (held start area) text ≡ read_from (reader_in l needs) 1 (held start area) (lines_of text)
-      in_time = rw (le-ltb limits.bytes (length text) h)
-
-      stopped : Stopped (reader_in l needs) (held start area) text r.number r.line (held r.state exit)
-      stopped = record { reach = read.reach; outcome = read.outcome }
-
-      same_end : told ≡ end_fault r.number r.line (eqb r.state.stands 2) ((reader_in l needs).last (held r.state exit))
-      same_end = rw (got.told_is, got.last_is, got.refuted_is, got.row_is)
-
-  area_read : exit ≡ area_in l needs text area
-  area_read = rw (le-ltb limits.bytes (length text) h) (ap (λ (x : Held). x.area) read.reach)
-
-  pub sheet_judged : SheetJudged l needs text area exit (fault told.number told.line)
-  sheet_judged = judged l needs text area fault_read area_read
+      at_end : (b : Bool) → (cond b (held l needs start area) (reached_in l needs text area)).area ≡ cond b area (reached_in l needs text area).area
+      at_end true = refl
+      at_end false = refl

@@ -15,14 +15,14 @@ use Rattle.rules.specs.Catalogue.{Catalogue, WellFormed, Carried, limits, text_f
 use Rattle.rules.specs.Sheet.{SheetReading, sheet_reading, sheet_reader, last_line, sheet_fault}
 use Rattle.rules.proofs.Readers.{same_told}
 use Rattle.rules.proofs.Reading.{reads_well_formed, reads_few, limits_carried}
-use Rattle.store.specs.Tables.{Tables, Holds}
+use Rattle.store.specs.declared.tables.Tables.{Tables}
+use Rattle.store.specs.Tables.{Holds}
 use Rattle.store.proofs.Kept.{count_holds}
 use Rattle.rows.proofs.Words.{words_size}
 use Rattle.rows.proofs.Refuting.{refutes_law}
-use Rattle.sheets.specs.declared.frame.Fields.{Fields}
-use Rattle.sheets.specs.declared.frame.State.{State}
-use Rattle.sheets.specs.Frame.{state_of, fields_in}
-use Rattle.sheets.specs.Reading.{Lent, lent_by, kept_line, Held, held, start, reader_in, fault_in, work_bytes, Given}
+use Rattle.sheets.specs.Frame.{Fields, State, state_of, fields_in}
+use Rattle.store.specs.Lent.{Lent, lent_by}
+use Rattle.sheets.specs.Reading.{kept_line, Held, held, start, reader, fault_in, work_bytes, Given}
 use Rattle.sheets.proofs.Faults.{fault_law, after_law}
 use Rattle.sheets.proofs.Kept.{Kept, kept_start, kept_step}
 
@@ -38,6 +38,8 @@ line_size l area s f = go (eqb f.kind 33) (eqb f.kind 34) _ _ (words_size area s
 
 -- the code's reading and the rules': the same state, and in the area a row for each line
 record Together (t : Tables) (c : Catalogue) (h : Held) (u : SheetReading) : Type 0 where
+  lent_is : h.lent ≡ lent_by t c.modules
+  needs_are : h.needs ≡ length c.needs
   told : h.state ≡ state_of u
   kept : Kept t c h.area u
   room : work_bytes ≤ length h.area
@@ -45,26 +47,28 @@ record Together (t : Tables) (c : Catalogue) (h : Held) (u : SheetReading) : Typ
 module _ {t : Tables} {c : Catalogue} {l : Lent} {needs size : ℕ} (given : Given t c l needs size) where
   -- both find the same in a frame of a known kind
   same_fault : (h : Held) (u : SheetReading) → Together t c h u → (f : List ℕ) → digits_for sheets (kind_of f) ≢ 0 →
-      (reader_in l needs).fault h f ≡ (sheet_reader c).fault u f
-  same_fault h u p f k = rw (p.told, given.lent_is, given.needs_are) (fault_law c u f k)
+      reader.fault h f ≡ (sheet_reader c).fault u f
+  same_fault h u p f k = rw (p.told, p.lent_is, p.needs_are) (fault_law c u f k)
 
   -- and stay together after a good one
   stay : (h : Held) (u : SheetReading) → Together t c h u → (f : List ℕ) → digits_for sheets (kind_of f) ≢ 0 → (sheet_reader c).fault u f ≡ 0 →
-      Together t c ((reader_in l needs).after h f) ((sheet_reader c).after u f)
+      Together t c (reader.after h f) ((sheet_reader c).after u f)
   stay h u p f k good =
       record {
+        lent_is = p.lent_is;
+        needs_are = p.needs_are;
         told = rw p.told (sym (after_law u f k));
-        kept = rw (p.told, given.lent_is) (kept_step given.holds given.narrow u p.kept p.room f good k);
-        room = rw (line_size l h.area h.state (fields_in f)) p.room;
+        kept = rw (p.told, p.lent_is) (kept_step given.holds given.narrow u p.kept p.room f good k);
+        room = rw (line_size h.lent h.area h.state (fields_in f)) p.room;
       }
 
   -- the last line's row refutes just if the last line does
-  same_last : (h : Held) (u : SheetReading) → Together t c h u → eqb u.stands 2 ≡ true → (reader_in l needs).last h ≡ (sheet_reader c).last u
+  same_last : (h : Held) (u : SheetReading) → Together t c h u → eqb u.stands 2 ≡ true → reader.last h ≡ (sheet_reader c).last u
   same_last h u p e =
       let ended = eqb-true u.stands 2 e in
       let none = p.kept.over ended in
       let some = p.kept.some (λ z. two_not_zero (sym ended ∙ z)) in
-      rw (p.told, given.lent_is)
+      rw (p.told, p.lent_is)
       (ap (λ (b : Bool). unless b 13)
       (refutes_law t c given.holds given.well_formed given.narrow h.area (length u.entries - 1) (last_line c u.entries)
       (p.kept.rows (length u.entries - 1) (omega arith))))
@@ -76,9 +80,9 @@ module _ {t : Tables} {c : Catalogue} {l : Lent} {needs size : ℕ} (given : Giv
 pub judged_as_rules : (l : Lent) (needs : ℕ) (text area : List ℕ) (t : Tables) (c : Catalogue) → Given t c l needs (length area) →
     fault_in l needs text area ≡ sheet_fault limits c text
 judged_as_rules l needs text area t c g =
-    same_told (reader_in l needs) (sheet_reader c) refl (Together t c) (same_fault g) (stay g) (λ h u p. ap (λ (s : State). eqb s.stands 2) p.told)
-    (same_last g) limits.bytes (held start area) (sheet_reading 0 0 [])
-    (record { told = refl; kept = kept_start t c area; room = g.room }) text
+    same_told reader (sheet_reader c) refl (Together t c) (same_fault g) (stay g) (λ h u p. ap (λ (s : State). eqb s.stands 2) p.told)
+    (same_last g) limits.bytes (held l needs start area) (sheet_reading 0 0 [])
+    (record { lent_is = g.lent_is; needs_are = g.needs_are; told = refl; kept = kept_start t c area; room = g.room }) text
 
 -- A CATALOGUE READ without a fault, which the tables hold, is given
 pub read_given : (text : List ℕ) (t : Tables) (size : ℕ) → text_fault limits text ≡ fine → Holds t (catalogue_of limits text) → work_bytes ≤ size →

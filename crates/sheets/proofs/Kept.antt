@@ -18,15 +18,16 @@ use Rattle.rules.specs.Sheet.{SheetReading, sheet_reading, sheet_reader, sheet_o
 use Rattle.rules.proofs.Lists.{and_fst, and_snd, longer, length_last, one_more}
 use Rattle.rules.proofs.Readers.{or_else_none, unless_none}
 use Rattle.rules.proofs.Incompatibilities.{lines_length, lines_append}
-use Rattle.store.specs.Tables.{Tables, Holds}
+use Rattle.store.specs.declared.tables.Tables.{Tables}
+use Rattle.store.specs.Tables.{Holds}
 use Rattle.rows.specs.Area.{with_row}
 use Rattle.rows.specs.Stands.{Stands, HasRow, Narrow}
 use Rattle.rows.proofs.Standing.{others_kept}
 use Rattle.rows.proofs.NeedLines.{need_stands}
 use Rattle.rows.proofs.Resolutions.{resolved_stands}
-use Rattle.sheets.specs.declared.frame.Fields.{Fields}
-use Rattle.sheets.specs.Frame.{state_of, fields_at, fields_in}
-use Rattle.sheets.specs.Reading.{lent_by, kept_line, work_bytes}
+use Rattle.sheets.specs.Frame.{Fields, state_of, fields_at, fields_in}
+use Rattle.sheets.specs.Reading.{kept_line, work_bytes}
+use Rattle.store.specs.Lent.{lent_by}
 use Rattle.sheets.proofs.Faults.{Known, a_head, a_need, a_resolved, an_end, known_kind}
 use Rattle.sheets.proofs.Faults.{head_fields, need_fields_lem, resolved_fields, end_fields}
 

@@ -3,9 +3,32 @@ use Rattle.std.specs.Prelude.{true, ◌&&◌, not, cond, List, ℕ, ◌+◌, ◌
 use Rattle.rules.specs.Lists.{is_in}
 use Rattle.rules.specs.Frames.{byte_at, kind_of, pair_at, sheets, kinds, row_in}
 use Rattle.rules.specs.Sheet.{SheetReading, most_lines}
-use Rattle.store.specs.Frame.{module_no, checks}
-use Rattle.sheets.specs.declared.frame.Fields.{Fields}
-use Rattle.sheets.specs.declared.frame.State.{State}
+use Rattle.rules.specs.Frames as Rules
+use Rattle.store.specs.Frame.{module_no, stands_number, checks}
+use Rattle.frames.specs.Kinds.{kind_number}
+use Rattle.frames.specs.declared.numbers.ModuleNo.{ModuleNo}
+use Rattle.sheets.specs.declared.frame.Fields as Code
+use Rattle.sheets.specs.declared.frame.State as Code_State
+
+-- THE FIELDS of a frame, its kind by its number, and where a reading stands (0 before the head, 1 in the body, 2 after the end), how many lines are due and
+-- how many have been read
+pub record Fields : Type 0 where
+  pub kind : ℕ
+  pub first : ℕ
+  pub second : ℕ
+  pub owner : ModuleNo
+
+pub record State : Type 0 where
+  pub stands : ℕ
+  pub due : ℕ
+  pub lines : ℕ
+
+-- as the code has them, by enums
+abbrev pub fields_told : Code.Fields → Fields
+fields_told f = record { kind = kind_number f.kind; first = f.first; second = f.second; owner = f.owner }
+
+abbrev pub state_told : Code_State.State → State
+state_told s = record { stands = stands_number s.stands; due = s.due; lines = s.lines }
 
 -- what the code keeps of a reading beside the rows
 abbrev pub state_of : SheetReading → State
@@ -19,6 +42,10 @@ fields_at i j k f = record { kind = byte_at f 0; first = pair_at f i; second = p
 abbrev pub fields_in : (frame : List ℕ) → Fields
 fields_in f =
     fields_at (row_in kinds sheets (kind_of f)).first (row_in kinds sheets (kind_of f)).second (row_in kinds sheets (kind_of f)).third f
+
+-- of a kind with this row of the table
+abbrev pub fields_by : Rules.Kind → (frame : List ℕ) → Fields
+fields_by r f = record { kind = r.kind; first = pair_at f r.first; second = pair_at f r.second; owner = module_no (byte_at f r.third) }
 
 -- 5 and 6, kind by kind: a head, a need line and a resolved line where lines are due, an end where none is
 abbrev pub head_fault : State → Fields → ℕ

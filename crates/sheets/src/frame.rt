@@ -1,11 +1,14 @@
 // A frame of a sheet: its fields, what is wrong with it, and how the reading goes on after it.
 ghost use Rattle.std.specs.Prelude.{◌≡◌, ◌<◌};
-ghost use Rattle.sheets.specs.Frame.{head_fault, need_fault, resolved_fault, end_fault, frame_fault, after, fields_at};
+ghost use Rattle.frames.specs.Faults.{told};
+ghost use Rattle.frames.specs.Kinds.{row_of};
+ghost use Rattle.sheets.specs.Frame.{state_told, fields_told, fields_by, head_fault, need_fault, resolved_fault, end_fault, frame_fault, after};
 
+use frames::faults::Refusal;
 use frames::fields::{LONGEST, byte_in, pair_in};
-use frames::kinds::{Kind, NEED_LINE, RESOLVED, SHEET_END, SHEET_HEAD};
+use frames::kinds::{Kind, Row};
 use frames::numbers::ModuleNo;
-use store::frame::checks;
+use store::frame::{Stands, checks};
 use store::tables::one_less;
 
 // Lines of a sheet.
@@ -14,106 +17,117 @@ pub const LINES: u16 = 480;
 // The fields of a frame of any kind: a line count, a need's number or the first line cited; the second line cited; the module resolved at.
 #[derive(Clone, Copy)]
 pub struct Fields {
-    pub kind: u8,
+    pub kind: Kind,
     pub first: u16,
     pub second: u16,
     pub owner: ModuleNo,
 }
 
-// Where the reading stands (0 before the head, 1 in the body, 2 after the end), how many lines are due, and how many have been read.
+// Where the reading stands, how many lines are due, and how many have been read.
 #[derive(Clone, Copy)]
 pub struct State {
-    pub stands: u8,
+    pub stands: Stands,
     pub due: u16,
     pub lines: u16,
 }
 
-fn head_fault(s: State, f: Fields) -> u8
-    ensures { result ≡ head_fault s f }
+fn head_fault(s: State, f: Fields) -> Result<(), Refusal>
+    ensures { told result ≡ head_fault (state_told s) (fields_told f) }
 {
-    checks(s.stands == 0, (1 <= f.first) & (f.first <= LINES), true)
-}
-
-// `needs` is how many needs the catalogue has.
-fn need_fault(s: State, needs: u16, f: Fields) -> u8
-    ensures { result ≡ need_fault s needs f }
-{
-    checks((s.stands == 1) & (s.due != 0), f.first < needs, true)
-}
-
-// A cited line is an earlier one.
-fn resolved_fault(s: State, modules: u16, f: Fields) -> u8
-    ensures { result ≡ resolved_fault s modules f }
-{
-    let m = f.owner;
-    let cited = (f.first < s.lines) & (f.second < s.lines);
     checks(
-        (s.stands == 1) & (s.due != 0),
-        cited & (m.0 < modules),
+        s.stands == Stands::BeforeHead,
+        (1 <= f.first) & (f.first <= LINES),
         true,
     )
 }
 
-fn end_fault(s: State) -> u8
-    ensures { result ≡ end_fault s }
+// `needs` is how many needs the catalogue has.
+fn need_fault(s: State, needs: u16, f: Fields) -> Result<(), Refusal>
+    ensures { told result ≡ need_fault (state_told s) needs (fields_told f) }
 {
-    checks((s.stands == 1) & (s.due == 0), true, true)
+    checks(
+        (s.stands == Stands::InBody) & (s.due != 0),
+        f.first < needs,
+        true,
+    )
 }
 
-// What is wrong with a frame of a known kind, over a catalogue with so many modules and needs.
-pub fn frame_fault(s: State, modules: u16, needs: u16, f: Fields) -> u8
-    ensures { result ≡ frame_fault s modules needs f }
+// A cited line is an earlier one.
+fn resolved_fault(s: State, modules: u16, f: Fields) -> Result<(), Refusal>
+    ensures { told result ≡ resolved_fault (state_told s) modules (fields_told f) }
 {
-    if f.kind == SHEET_HEAD {
-        return head_fault(s, f);
-    }
-    if f.kind == NEED_LINE {
-        return need_fault(s, needs, f);
-    }
-    if f.kind == RESOLVED {
-        return resolved_fault(s, modules, f);
-    }
-    end_fault(s)
+    let cited = (f.first < s.lines) & (f.second < s.lines);
+    checks(
+        (s.stands == Stands::InBody) & (s.due != 0),
+        cited & (f.owner.0 < modules),
+        true,
+    )
 }
 
-pub fn after(s: State, f: Fields) -> State
-    requires { s.lines < 65535 }
-    ensures { result ≡ after s f }
+fn end_fault(s: State) -> Result<(), Refusal>
+    ensures { told result ≡ end_fault (state_told s) }
 {
-    if f.kind == SHEET_HEAD {
-        return State {
-            stands: 1,
-            due: f.first,
-            lines: 0,
-        };
+    checks((s.stands == Stands::InBody) & (s.due == 0), true, true)
+}
+
+// What is wrong with a frame of a sheet's kind, over a catalogue with so many modules and needs.
+#[tactic(auto, unfolding(crate::specs::Frame::frame_fault))]
+pub fn frame_fault(s: State, modules: u16, needs: u16, f: Fields) -> Result<(), Refusal>
+    ensures { told result ≡ frame_fault (state_told s) modules needs (fields_told f) }
+{
+    match f.kind {
+        Kind::SheetHead => head_fault(s, f),
+        Kind::NeedLine => need_fault(s, needs, f),
+        Kind::Resolved => resolved_fault(s, modules, f),
+        _ => end_fault(s),
     }
-    if f.kind == SHEET_END {
-        return State {
-            stands: 2,
-            due: 0,
-            lines: s.lines,
-        };
-    }
-    let due = one_less(s.due);
-    State {
-        stands: 1,
-        due: due,
-        lines: s.lines + 1,
+}
+
+impl State {
+    // Nothing has been read.
+    pub const START: State = State {
+        stands: Stands::BeforeHead,
+        due: 0,
+        lines: 0,
+    };
+
+    // How the reading goes on after a frame.
+    #[tactic(auto, unfolding(crate::specs::Frame::after))]
+    pub fn after(self, f: Fields) -> State
+        requires { self.lines < 65535 }
+        ensures { state_told result ≡ after (state_told self) (fields_told f) }
+    {
+        match f.kind {
+            Kind::SheetHead => State {
+                stands: Stands::InBody,
+                due: f.first,
+                lines: 0,
+            },
+            Kind::SheetEnd => State {
+                stands: Stands::AfterEnd,
+                due: 0,
+                lines: self.lines,
+            },
+            _ => State {
+                stands: Stands::InBody,
+                due: one_less(self.due),
+                lines: self.lines + 1,
+            },
+        }
     }
 }
 
 // The fields of a frame of a kind with this row of the table.
-pub fn fields_of(frame: [u8; LONGEST], row: Kind) -> Fields
-    ensures { result ≡ fields_at row.first row.second row.third frame }
+pub fn fields_of(frame: [u8; LONGEST], row: Row) -> Fields
+    ensures { fields_told result ≡ fields_by (row_of row) frame }
 {
-    let kind = byte_in(frame, 0);
     let first = pair_in(frame, row.first);
     let second = pair_in(frame, row.second);
     let owner = byte_in(frame, row.third as usize) as u16;
     Fields {
-        kind: kind,
-        first: first,
-        second: second,
+        kind: row.kind,
+        first,
+        second,
         owner: ModuleNo(owner),
     }
 }

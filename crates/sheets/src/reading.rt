@@ -1,157 +1,87 @@
 // A sheet's text read line by line, as far as the first faulty line, and judged by the row of its last line.
-ghost use Rattle.std.specs.Prelude.{◌≡◌, ◌≤◌, length};
-ghost use Rattle.rules.specs.Lines.{fault};
-ghost use Rattle.rules.specs.Catalogue.{limits};
-ghost use Rattle.sheets.specs.Reading.{lent, kept_line, LinesRead, SheetJudged};
+ghost use Rattle.std.specs.Prelude.{◌≡◌, ℕ};
+ghost use Rattle.frames.specs.Faults.{fault_told};
+ghost use Rattle.frames.specs.Kinds.{text_number};
+ghost use Rattle.store.specs.Lent.{lent_of};
+ghost use Rattle.sheets.specs.Frame.{state_told, fields_told};
+ghost use Rattle.sheets.specs.Reading.{Held, StandsFor, reader, kept_line, SheetJudged};
 
-use crate::frame;
-use crate::frame::{Fields, State};
-use frames::digits::{Pair, pair_at};
-use frames::faults::Fault;
-use frames::fields::{LONGEST, put};
-use frames::kinds::{NEED_LINE, RESOLVED};
-use frames::{faults, kinds};
+use crate::frame::{Fields, State, fields_of, frame_fault};
+use frames::faults::{Fault, Refusal, ensure};
+use frames::fields::LONGEST;
+use frames::kinds::{Kind, Row, Text};
+use frames::texts::{LineReader, read_text};
 use rows::derived::{refutes, resolved_row};
 use rows::needed::need_row;
+use store::frame::Stands;
+use store::lent::Lent;
 use store::limits::BYTES;
 use store::tables::one_less;
 
-// How far the reading came: the number of the first fault (0: none) and its line (one past the last), and the state there.
+// What is known of a sheet after the frames so far: where the reading stands, and in the work area a row for each line; over what is lent of a catalogue.
 #[derive(Drop)]
-pub struct Lines {
-    pub number: u8,
-    pub line: u32,
+pub struct SheetReader<'a> {
+    pub lent: Lent<'a>,
+    pub work: &'a mut [u8],
     pub state: State,
 }
 
-// Writes the row of a good line that has one. Every byte of the area outside the row stays.
-fn keep_line<'a>(
-    work: &'a mut [u8],
-    values: &'a [u32],
-    owners: &'a [u16],
-    firsts: &'a [u16],
-    counts: &'a [u16],
-    needies: &'a [u16],
-    targets: &'a [u16],
-    lows: &'a [u32],
-    highs: &'a [u32],
-    modules: u16,
-    s: State,
-    f: Fields,
-)
-    ensures { work.new ≡ kept_line (lent values.now owners.now firsts.now counts.now
-        needies.now targets.now lows.now highs.now modules)
-        work.old s f }
+// Writes the row of a good line that has one, over what is lent. Every byte of the area outside the row stays.
+#[tactic(auto, unfolding(crate::specs::Reading::kept_line))]
+fn keep_line(work: &mut [u8], lent: &Lent, s: State, f: Fields)
+    ensures { work.new ≡ kept_line (lent_of lent.now) work.old (state_told s) (fields_told f) }
 {
-    if f.kind == NEED_LINE {
-        need_row(
-            work, s.lines, values, owners, firsts, counts, needies, targets, lows, highs, modules,
-            f.first,
-        );
-        return;
-    }
-    if f.kind == RESOLVED {
-        let m = f.owner;
-        resolved_row(work, s.lines, modules, f.first, f.second, m);
+    match f.kind {
+        Kind::NeedLine => need_row(work, s.lines, lent, f.first),
+        Kind::Resolved => resolved_row(work, s.lines, lent.modules, f.first, f.second, f.owner),
+        _ => {}
     }
 }
 
-// Lines of digits, a frame a line. The digit loop is left at the first character that can't stand, and the reading at the first faulty line.
-fn read_lines<'a>(
-    text: &'a [u8],
-    values: &'a [u32],
-    owners: &'a [u16],
-    firsts: &'a [u16],
-    counts: &'a [u16],
-    needies: &'a [u16],
-    targets: &'a [u16],
-    lows: &'a [u32],
-    highs: &'a [u32],
-    modules: u16,
-    needs: u16,
-    work: &'a mut [u8],
-) -> Lines
-    requires { length text.now ≤ limits.bytes }
-    ensures { LinesRead (lent values.now owners.now firsts.now counts.now
-        needies.now targets.now lows.now highs.now modules)
-        needs text.now work.old work.new result }
+impl<'a> LineReader for SheetReader<'a> {
+    ghost Known = { Held };
+
+    ghost stands = { StandsFor };
+
+    ghost reads = { reader };
+
+    ghost Lender = { ℕ };
+
+    ghost lender = { λ s. s.work.ghost_name };
+
+    fn text() -> Text
+        ensures { text_number result ≡ reader.text }
+    {
+        Text::Sheet
+    }
+
+    fn take(&mut self, frame: [u8; LONGEST], row: Row) -> Result<(), Refusal> {
+        let f = fields_of(frame, row);
+        frame_fault(self.state, self.lent.modules, self.lent.needs, f)?;
+        keep_line(self.work, &self.lent, self.state, f);
+        self.state = self.state.after(f);
+        Ok(())
+    }
+
+    fn is_ended(&self) -> bool {
+        self.state.stands == Stands::AfterEnd
+    }
+
+    // The last line refutes.
+    fn last(&self) -> Result<(), Refusal> {
+        let refuted = refutes(self.work, one_less(self.state.lines), &self.lent);
+        ensure(refuted, Refusal::Unrefuting)
+    }
+}
+
+// A sheet's text judged over what is lent of a catalogue: its fault. The rows of its lines stay in the work area.
+pub fn read_sheet(text: &[u8], lent: &Lent, work: &mut [u8]) -> Result<(), Fault>
+    ensures { SheetJudged (lent_of lent.now) lent.now.needs text.now work.old work.new (fault_told result) }
 {
-    let mut s = State {
-        stands: 0,
-        due: 0,
-        lines: 0,
+    let mut reader = SheetReader {
+        lent: *lent,
+        work,
+        state: State::START,
     };
-    let mut number: u8 = 0;
-    let mut line: u32 = 1;
-    let mut at: usize = 0;
-    'lines: while at < text.len() {
-        let mut bytes_read = [0u8; LONGEST];
-        let mut bytes: usize = 0;
-        let mut sum: u32 = 0;
-        'digits: loop {
-            let pair = pair_at(text, at);
-            match pair {
-                Pair::Byte(b) => {
-                    put(&mut bytes_read, bytes, b);
-                    bytes += 1;
-                    sum = (sum + b as u32) % 256;
-                    at += 2;
-                }
-                Pair::LineFeed => break 'digits,
-                Pair::Wrong => {
-                    number = 2;
-                    break 'lines;
-                }
-            }
-        }
-        let row = kinds::row(kinds::SHEET, bytes_read[0]);
-        let f = frame::fields_of(bytes_read, row);
-        let found = frame::frame_fault(s, modules, needs, f);
-        number = faults::line_fault(bytes, sum, row, found);
-        if number != 0 {
-            break 'lines;
-        }
-        keep_line(
-            work, values, owners, firsts, counts, needies, targets, lows, highs, modules, s, f,
-        );
-        s = frame::after(s, f);
-        at += 1;
-        line += 1;
-    }
-    Lines {
-        number,
-        line,
-        state: s,
-    }
-}
-
-// A sheet's text judged over a catalogue, by the catalogue's tables and how many modules and needs it has: the number and line of its refusal, or 0 and 0.
-#[inline(never)]
-pub fn read_sheet<'a>(
-    text: &'a [u8],
-    values: &'a [u32],
-    owners: &'a [u16],
-    firsts: &'a [u16],
-    counts: &'a [u16],
-    needies: &'a [u16],
-    targets: &'a [u16],
-    lows: &'a [u32],
-    highs: &'a [u32],
-    modules: u16,
-    needs: u16,
-    work: &'a mut [u8],
-) -> Fault
-    ensures { SheetJudged (lent values.now owners.now firsts.now counts.now
-        needies.now targets.now lows.now highs.now modules)
-        needs text.now work.old work.new (fault result.number result.line) }
-{
-    if BYTES < text.len() {
-        return Fault { number: 1, line: 0 };
-    }
-    let l = read_lines(
-        text, values, owners, firsts, counts, needies, targets, lows, highs, modules, needs, work,
-    );
-    let s = l.state;
-    let refuted = refutes(work, one_less(s.lines), counts, modules);
-    faults::end_fault(l.number, l.line, s.stands == 2, faults::unless(refuted, 13))
+    read_text(text, BYTES, &mut reader)
 }

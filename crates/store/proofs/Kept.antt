@@ -471,7 +471,7 @@ module _ {t : Tables} {c : Catalogue} (tidy : Tidy t c) (m a b : ℕ) (some : 0 
       }
 
 -- A GOOD FRAME: three tests that tell no fault pass
-checks_none : (a b d : Bool) → checks a b d ≡ 0 → (a ≡ true) × (b ≡ true) × (d ≡ true)
+pub checks_none : (a b d : Bool) → checks a b d ≡ 0 → (a ≡ true) × (b ≡ true) × (d ≡ true)
 unfolding checks
 checks_none a b d e =
     let one = or_else_none (unless a 5) _ e in
