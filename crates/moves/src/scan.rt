@@ -30,15 +30,15 @@ pub fn bars(
 ) -> bool
     ensures { result ≡ bars_in t.now chosen.now own m.0 (suc p.0) k }
 {
-    let target = at(&t.targets, k as usize, 0);
+    let target = ModuleNo(at(&t.targets, k as usize, 0));
     if own {
-        let met = at(chosen, target as usize, 0);
+        let met = at(chosen, target.0 as usize, 0);
         if met == 0 {
             return false;
         }
         return leaves_out(t, k, Place(met - 1));
     }
-    if target == m.0 {
+    if target == m {
         return leaves_out(t, k, p);
     }
     false

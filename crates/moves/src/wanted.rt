@@ -11,7 +11,7 @@ use store::lookup::Span;
 use store::tables::Tables;
 
 // No module yet: the greatest number, which every other is below.
-const NO_MODULE: u16 = u16::MAX;
+const NO_MODULE: ModuleNo = ModuleNo(u16::MAX);
 
 // A module to choose, the number of the first need that asks for it, and the range that the needs of chosen versions leave to it.
 #[derive(Clone, Copy)]
@@ -31,7 +31,7 @@ impl Wanted {
             need: u32::MAX,
             low: Version::LOWEST,
             high: Version::NO_END,
-            owner: ModuleNo(NO_MODULE),
+            owner: NO_MODULE,
         }
     }
 
@@ -41,8 +41,8 @@ impl Wanted {
     {
         Wanted {
             need: self.need,
-            low: if low < self.low { self.low } else { low },
-            high: if high < self.high { high } else { self.high },
+            low: low.max(self.low),
+            high: high.min(self.high),
             owner: self.owner,
         }
     }
@@ -53,23 +53,23 @@ impl Wanted {
 pub fn better(t: &Tables, chosen: &[u16; MODULES as usize], k: u32, w: Wanted) -> Wanted
     ensures { result ≡ better_in t.now chosen.now k w }
 {
-    let target = at(&t.targets, k as usize, 0);
+    let target = ModuleNo(at(&t.targets, k as usize, 0));
     let lowest = w.owner;
-    if lowest.0 < target {
+    if lowest < target {
         return w;
     }
     let low = Version(at(&t.lows, k as usize, 0));
     let high = Version(at(&t.highs, k as usize, 0));
-    if target == lowest.0 {
+    if target == lowest {
         return w.narrow(low, high);
     }
-    let state = at(chosen, target as usize, 0);
+    let state = at(chosen, target.0 as usize, 0);
     if state == 0 {
         return Wanted {
             need: k,
             low,
             high,
-            owner: ModuleNo(target),
+            owner: target,
         };
     }
     w
@@ -118,7 +118,7 @@ pub fn next_of(t: &Tables, chosen: &[u16; MODULES as usize], modules: u16) -> Op
     for k in 0..modules {
         w = wanted_of_module(t, chosen, ModuleNo(k), w);
     }
-    if w.owner == ModuleNo(NO_MODULE) {
+    if w.owner == NO_MODULE {
         return None;
     }
     Some(w)
