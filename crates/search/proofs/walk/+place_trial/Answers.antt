@@ -1,7 +1,5 @@
 -- The proof of the cycle of calls {place, trial}: each way out is a lemma of proofs/Walks.antt.
 use mathlib.Core.Path.{refl, ◌∙◌, ap}
-use native.Mathlib.Omega.{arith}
-use borrow.Author.Rules.{rules}
 use Rattle.store.specs.declared.lookup.Span.{Span}
 use Rattle.moves.specs.Noting.{sheet_of}
 use Rattle.search.specs.Choosing.{falling}
