@@ -6,7 +6,7 @@ use mathlib.Core.List.{List}
 use Prim.Native.Nat.{ℕ, zero, suc, ◌+◌, ◌-◌, ◌≤◌, ◌<◌}
 use native.Mathlib.Omega.{arith}
 use native.Mathlib.Nat.{not-suc-le-zero}
-use lib.ListN.{set, replicate}
+use lib.ListN.{set}
 use Rattle.std.specs.Prelude.{Option, Some, None, Ok, Err}
 use Rattle.rules.specs.Sheet.{cites, resolves}
 use Rattle.rules.proofs.Lists.{cond_true, cond_false}
@@ -14,7 +14,7 @@ use Rattle.search.specs.declared.choices.Choices.{Choices}
 use Rattle.moves.specs.declared.wanted.Wanted.{Wanted}
 use Rattle.search.specs.Choosing.{choices, falling}
 use Rattle.moves.specs.Noting.{Sheet, note_in, number_in, entry_bytes}
-use Rattle.search.specs.Walking.{Moves, Walked, walked, told, if_wanted, try_walk, each_walk, walk_in, started}
+use Rattle.search.specs.Walking.{Moves, Walked, walked, told, if_wanted, try_walk, each_walk, walk_in}
 
 -- HOW A CALL ENDS, by what it hands back and the sheet
 pub found_is : {x : Walked} {r : Choices} {s : Sheet} → Ok r ≡ told x → s ≡ x.sheet → walked true r s ≡ x
@@ -42,11 +42,6 @@ try_with v f w i r s {t = t} e q = subst (λ (x : ℕ). t ≡ try_walk v x (walk
 
 pub note_with : (bs : List ℕ) (s : Sheet) {a b : ℕ} {t : Sheet} → b ≡ a → t ≡ note_in b bs s → t ≡ note_in a bs s
 note_with bs s {t = t} e q = subst (λ (x : ℕ). t ≡ note_in x bs s) e q
-
--- THE START: what is chosen first, of nothing, at the root's place
-pub start_is : {i j : ℕ} {nothing root : Choices} → nothing ≡ choices (replicate 32 0) None → i ≡ j →
-    root ≡ choices (set nothing.chosen 0 (suc i)) nothing.next → root ≡ started j
-start_is n e r = r ∙ rw (n, e)
 
 module _ (v : Moves) (a : ℕ) where
   -- A TRIAL: barred, found, failed

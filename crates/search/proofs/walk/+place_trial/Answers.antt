@@ -51,14 +51,12 @@ place-returns-in-Ok t c =
 
 pub place-loop-untried-preserved : goal.place-loop-untried-preserved
 place-loop-untried-preserved t c =
-    let old = c.loop-untried.invariant in
-    let tried = c.in-Err.ensures in
-    let ended = try_with _ _ _ _ _ _ old.allowance (failed_is tried.told tried.sheet) in
+    let ended = try_with _ _ _ _ _ _ c.loop-untried.invariant.allowance (failed_is c.in-Err.ensures.told c.in-Err.ensures.sheet) in
     record {
-      same = c.resolve.ensures.same ∙ tried.same ∙ old.same;
-      allowance = c.resolve.ensures.allowance ∙ tried.allowance ∙ old.allowance;
-      goes = going_on _ _ _ _ _ old.goes c.loop-untried-test.true ended refl c.one_less.ensures
-      (note_with _ _ (tried.allowance ∙ old.allowance) c.resolve.ensures.sheet);
+      same = c.resolve.ensures.same ∙ c.in-Err.ensures.same ∙ c.loop-untried.invariant.same;
+      allowance = c.resolve.ensures.allowance ∙ c.in-Err.ensures.allowance ∙ c.loop-untried.invariant.allowance;
+      goes = going_on _ _ _ _ _ c.loop-untried.invariant.goes c.loop-untried-test.true ended refl c.one_less.ensures
+      (note_with _ _ (c.in-Err.ensures.allowance ∙ c.loop-untried.invariant.allowance) c.resolve.ensures.sheet);
     }
 
 pub place-returns : goal.place-returns
