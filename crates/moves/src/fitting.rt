@@ -23,8 +23,8 @@ pub fn fits(t: &Tables, chosen: &[u16; MODULES as usize], w: Wanted, p: Place) -
         return false;
     }
     let own = lookup::needs_of(&t.starts, &t.marks, p);
-    let k = scan::first_bar(t, chosen, true, w.owner, p, own);
-    k.is_none()
+    let bar = scan::first_bar(t, chosen, true, w.owner, p, own);
+    bar.is_none()
 }
 
 // The need that bars a trial of module m at a place is cited; where none does, the greatest number. It is looked for only as long as lines have room.

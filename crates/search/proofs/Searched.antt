@@ -76,8 +76,8 @@ module _ (t : Tables) (c : Catalogue) (holds : Holds t c) (w : WellFormed c) (fe
   unfolding notes_in
   whole =
       subst EndsWith (sym (best_found c))
-      (subst (λ (s : Selection). Ends c few moves follows a (fresh area) refl (start_in t) (notes_in a (fresh area) (search_lines c.modules c (newest_first c) s 0))
-      (search_from c.modules c (newest_first c) s).found ended) (start_root t c holds w few)
+      (subst (λ (s : Selection). Ends c few moves follows a (fresh area) refl (start_in t)
+      (notes_in a (fresh area) (search_lines c.modules c (newest_first c) s 0)) (search_from c.modules c (newest_first c) s).found ended) (start_root t c holds w few)
       (walk_law c few moves follows a (fresh area) refl c.modules (started (get_or t.firsts 0 0)) (start_chosen t c holds w few) []))
 
   pub search_finds : (s : Selection) → best c ≡ some s → (ended.found ≡ true) × (chosen_of c ended.choices.chosen ≡ s)
