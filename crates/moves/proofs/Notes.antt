@@ -2,11 +2,10 @@
 use mathlib.Core.Path.{◌≡◌, refl, sym}
 use mathlib.Core.Bool.{Bool, true, false, ◌||◌}
 use mathlib.Core.List.{List}
-use Prim.Native.Nat.{ℕ, ◌+◌, ◌*◌, ◌-◌, ◌≤◌, ◌<◌}
+use Prim.Native.Nat.{ℕ, ◌+◌, ◌*◌, ◌-◌}
 use lib.Dec.{ltb, leb}
 use lib.ListN.{length}
 use lib.Seq.{sets}
-use borrow.Author.Tests.{leb-false, ltb-false}
 use Rattle.rules.specs.Frames.{frame_text}
 use Rattle.rules.proofs.Lists.{cond_true, cond_false, not_both}
 use Rattle.moves.specs.Noting.{Sheet, sheet, noted, is_over, note_in}

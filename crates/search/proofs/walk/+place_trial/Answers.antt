@@ -33,8 +33,8 @@ place-loop-untried-init t c =
       allowance = c.cite.ensures.allowance;
       goes = record {
         same = place_begun v a.sheet.now.allowance a.choices (sheet_of a.sheet.now) c.next_module-record.ensures
-        a.unsettled c.if-unsettled-eq0.false c.in-Some.is (ap (λ (s : Span). falling s.first s.count) c.versions_of-versions.ensures)
-        c.cite.ensures.sheet;
+            a.unsettled c.if-unsettled-eq0.false c.in-Some.is (ap (λ (s : Span). falling s.first s.count) c.versions_of-versions.ensures)
+            c.cite.ensures.sheet;
       };
     }
 
@@ -56,7 +56,7 @@ place-loop-untried-preserved t c =
       same = c.resolve.ensures.same ∙ c.in-Err.ensures.same ∙ c.loop-untried.invariant.same;
       allowance = c.resolve.ensures.allowance ∙ c.in-Err.ensures.allowance ∙ c.loop-untried.invariant.allowance;
       goes = going_on _ _ _ _ _ c.loop-untried.invariant.goes c.loop-untried-test.true ended refl c.one_less.ensures
-      (note_with _ _ (c.in-Err.ensures.allowance ∙ c.loop-untried.invariant.allowance) c.resolve.ensures.sheet);
+          (note_with _ _ (c.in-Err.ensures.allowance ∙ c.loop-untried.invariant.allowance) c.resolve.ensures.sheet);
     }
 
 pub place-returns : goal.place-returns

@@ -22,5 +22,5 @@ invariant-place-loop-untried l =
       same : l.sheet.area.ghost_name ≡ l.fn.sheet.area.ghost_name;
       allowance : l.sheet.allowance ≡ a;
       goes : Going v a (walk_in (l.unsettled - 1) v a) l.w l.versions.first
-      (walk_in l.unsettled v a l.fn.choices (sheet_of l.fn.sheet)) l.record l.untried l.came (sheet_of l.sheet);
+          (walk_in l.unsettled v a l.fn.choices (sheet_of l.fn.sheet)) l.record l.untried l.came (sheet_of l.sheet);
     }
