@@ -19,10 +19,12 @@ use Rattle.rules.specs.Lists.{first_of, up_from, below}
 use Rattle.rules.specs.Catalogue.{Catalogue, WellFormed, need_at}
 use Rattle.rules.specs.Selection.{chosen_at, needs_at, asked, is_asked, next_modules}
 use Rattle.rules.specs.Sheet.{asking}
-use Rattle.rules.proofs.Lists.{true_or_false, first_mem, below_mem}
+use Rattle.std.specs.Prelude.{Some, None}
+use Rattle.rules.proofs.Lists.{true_or_false, cond_true, cond_false, first_mem, below_mem}
 use Rattle.rules.proofs.Selections.{Next, suc_not_zero, asked_mem, mem_is_asked, is_asked_mem, next_first, next_none}
 use Rattle.rules.proofs.Theorems.{next_is_lowest}
-use Rattle.store.specs.Tables.{Tables, Holds}
+use Rattle.store.specs.declared.tables.Tables.{Tables}
+use Rattle.store.specs.Tables.{Holds}
 use Rattle.moves.specs.Wanted.{no_module, wanted_by, none_wanted, narrowed, better_in, fold_in, wanted_state, wanted_at, wanted_in}
 use Rattle.moves.specs.declared.wanted.Wanted.{Wanted}
 use Rattle.moves.proofs.Chosen.{chosen_of}
@@ -236,23 +238,24 @@ low_of c k = (need_at c k).low
 abbrev high_of : Catalogue → (number : ℕ) → ℕ
 high_of c k = (need_at c k).high
 
+-- what all needs of chosen versions come to
 abbrev pub wanted_of : Tables → Catalogue → (chosen : List ℕ) → Wanted
-wanted_of t c ch = wanted_in t.starts t.marks t.targets t.lows t.highs ch c.modules
+wanted_of t c ch = fold_in (wanted_at t ch) none_wanted 0 c.modules
 
 module _ (t : Tables) (c : Catalogue) (h : Holds t c) (chosen : List ℕ) where
   abbrev step : ℕ → Wanted → Wanted
   step = lower (target_of c) (low_of c) (high_of c) chosen
 
-  same_step : (k : ℕ) (b : Wanted) → better_in t.targets t.lows t.highs chosen k b ≡ step k b
+  same_step : (k : ℕ) (b : Wanted) → better_in t chosen k b ≡ step k b
   same_step k b = rw (h.targets k, h.lows k, h.highs k)
 
-  same_state : (x : ℕ) (b : Wanted) → wanted_state t.starts t.marks t.targets t.lows t.highs chosen x b ≡ fold_over step b (needs_at c x)
+  same_state : (x : ℕ) (b : Wanted) → wanted_state t chosen x b ≡ fold_over step b (needs_at c x)
   unfolding fold_over
   same_state zero b = refl
   same_state (suc j) b = over_run step _ same_step b _ _ ∙ ap (fold_over step b) (sym (h.needs j))
 
   same_module : (k : ℕ) → k < c.modules → (b : Wanted) →
-      wanted_at t.starts t.marks t.targets t.lows t.highs chosen k b ≡ fold_over step b (needs_at c (chosen_at (chosen_of c chosen) k))
+      wanted_at t chosen k b ≡ fold_over step b (needs_at c (chosen_at (chosen_of c chosen) k))
   same_module k l b = rw (get_or-take c.modules chosen k 0 l) (same_state (get_or chosen k 0) b)
 
   -- what is wanted is one fold over the needs that all chosen versions have
@@ -260,7 +263,7 @@ module _ (t : Tables) (c : Catalogue) (h : Holds t c) (chosen : List ℕ) where
   unfolding asked
   one_fold =
       over_run _ _ (λ k b. refl) none_wanted 0 c.modules ∙
-      over_flat step (wanted_at t.starts t.marks t.targets t.lows t.highs chosen) (λ (m : ℕ). needs_at c (chosen_at (chosen_of c chosen) m)) (below c.modules)
+      over_flat step (wanted_at t chosen) (λ (m : ℕ). needs_at c (chosen_at (chosen_of c chosen) m)) (below c.modules)
       (λ k m. same_module k (below_mem m)) none_wanted
 
 -- THE LAWS
@@ -284,8 +287,8 @@ module _ (t : Tables) (c : Catalogue) (h : Holds t c) (w : WellFormed c) (few : 
       (rw q at (w.targets k (asked_mem c (chosen_of c chosen) f.0).is_need), rw q at (mem_is_asked c (chosen_of c chosen) f.0))
 
   -- where nothing is next, nothing is wanted
-  pub wanted_none : next_modules c (chosen_of c chosen) ≡ [] → (wanted_of t c chosen).owner.0 ≡ no_module
-  wanted_none e = go (wanted_of t c chosen) comes
+  pub wanted_none : next_modules c (chosen_of c chosen) ≡ [] → wanted_in t chosen c.modules ≡ None
+  wanted_none e = cond_true _ _ (eq-eqb _ no_module (go (wanted_of t c chosen) comes))
     where
       go : (r : Wanted) → Comes r → r.owner.0 ≡ no_module
       go r (stayed p q) = p
@@ -296,9 +299,13 @@ module _ (t : Tables) (c : Catalogue) (h : Holds t c) (w : WellFormed c) (few : 
 
   -- the next module is wanted, by the first need that asks for it
   pub wanted_next : (m : ℕ) (ms : List ℕ) → next_modules c (chosen_of c chosen) ≡ m ∷ ms →
-      ((wanted_of t c chosen).owner.0 ≡ m) × (asking c (chosen_of c chosen) m ≡ some (wanted_of t c chosen).need)
+      (wanted_in t chosen c.modules ≡ Some (wanted_of t c chosen)) × ((wanted_of t c chosen).owner.0 ≡ m) ×
+      (asking c (chosen_of c chosen) m ≡ some (wanted_of t c chosen).need)
   unfolding asking
-  wanted_next m ms e = go (wanted_of t c chosen) comes at_most
+  wanted_next m ms e =
+      let both = go (wanted_of t c chosen) comes at_most in
+      let l = first.fits in
+      (cond_false _ _ (ne_eqb (wanted_of t c chosen).owner.0 no_module (λ q. omega (arith, both.0))), both.0, both.1)
     where
       first : Next c (chosen_of c chosen) m
       first = next_first c (chosen_of c chosen) m ms e
@@ -328,7 +335,7 @@ module _ (t : Tables) (c : Catalogue) (h : Holds t c) (w : WellFormed c) (few : 
     IsWithin = ((wanted_of t c chosen).low.0 ≤ v) × (v < (wanted_of t c chosen).high.0)
 
     is_owner : (wanted_of t c chosen).owner.0 ≡ m
-    is_owner = (wanted_next m ms e).0
+    is_owner = (wanted_next m ms e).1
 
     left : Ranged (target_of c) (low_of c) (high_of c) chosen (asked c (chosen_of c chosen)) none_wanted (wanted_of t c chosen) v
     left = rw (one_fold t c h chosen) (ranged (target_of c) (low_of c) (high_of c) chosen (asked c (chosen_of c chosen)) none_wanted v)

@@ -5,8 +5,9 @@ use mathlib.Core.Bool.{Bool, true, false, ◌&&◌, not, cond}
 use mathlib.Core.List.Memᴰ.{head as here}
 use mathlib.Core.List.Memᴰ.{tail as there}
 use mathlib.Core.List.{List, [], ◌∷◌, ◌++◌, flat_map, Memᴰ as Mem}
-use mathlib.Core.Option.{Option, some}
-use Prim.Native.Nat.{ℕ, zero, suc, ◌≤◌, ◌<◌}
+use mathlib.Core.Option as Rules
+use mathlib.Core.Option.{none, some}
+use Prim.Native.Nat.{ℕ, zero, suc, ◌<◌}
 use native.Mathlib.Omega.{arith}
 use lib.Dec.{eqb}
 use lib.ListN.{length, get_or}
@@ -18,54 +19,60 @@ use Rattle.rules.specs.Selection.{Selection, chosen_at, with_choice, needs_at, a
 use Rattle.rules.specs.Search.{leaves_out, bars, barring}
 use Rattle.rules.proofs.Lists.{cond_true, cond_false, same_or_not, below_mem}
 use Rattle.rules.proofs.Selections.{chosen_new, chosen_old, of_parts, needs_at_mem}
-use Rattle.store.specs.Tables.{Tables, Holds}
-use Rattle.moves.specs.Scan.{no_number, number_of, leaves_out_in, bars_in, first_in, scan_state, scan_in, over_in}
+use Rattle.std.specs.Prelude.{Option, Some, None}
+use Rattle.std.specs.Option.{option_or}
+use Rattle.store.specs.declared.tables.Tables.{Tables}
+use Rattle.store.specs.Tables.{Holds}
+use Rattle.moves.specs.Scan.{leaves_out_in, bars_in, first_in, scan_state, scan_in, over_in}
 use Rattle.moves.proofs.Chosen.{chosen_of, Chosen}
 
 -- FIRST HITS
+-- a hit of the rules as the code tells it
+abbrev pub hit_of : Rules.Option ℕ → Option ℕ
+hit_of none = None
+hit_of (some k) = Some k
+
 -- tests that agree on a list's members have the same first hit
 first_agree : {A : Type 0} (f g : A → Bool) (xs : List A) → ((x : A) → Mem x xs → f x ≡ g x) → first_of f xs ≡ first_of g xs
 unfolding first_of
 first_agree f g [] h = refl
 first_agree {A} f g (x ∷ xs) h =
-    ap₂ (λ (b : Bool) (r : Option A). cond b (some x) r) (h x (here refl)) (first_agree f g xs (λ y m. h y (there m)))
+    ap₂ (λ (b : Bool) (r : Rules.Option A). cond b (some x) r) (h x (here refl)) (first_agree f g xs (λ y m. h y (there m)))
 
 -- the first hit of a run of numbers
-first_number : (f : ℕ → Bool) (i n : ℕ) → first_in f i n ≡ number_of (first_of f (up_from i n))
+first_hit : (f : ℕ → Bool) (i n : ℕ) → first_in f i n ≡ hit_of (first_of f (up_from i n))
 unfolding first_in first_of up_from
-first_number f i zero = refl
-first_number f i (suc n) = go (f i) (first_of f (up_from (suc i) n)) (first_number f (suc i) n)
+first_hit f i zero = refl
+first_hit f i (suc n) = go (f i) (first_of f (up_from (suc i) n)) (first_hit f (suc i) n)
   where
-    go : {x : ℕ} (b : Bool) (r : Option ℕ) → x ≡ number_of r → cond b i x ≡ number_of (cond b (some i) r)
+    go : {x : Option ℕ} (b : Bool) (r : Rules.Option ℕ) → x ≡ hit_of r → cond b (Some i) x ≡ hit_of (cond b (some i) r)
     go true r e = refl
     go false r e = e
 
 module _ (f : ℕ → Bool) where
   -- the first hit of two lists is the first list's, or the second's
-  first_append : (xs ys : List ℕ) → ((x : ℕ) → Mem x xs → x < no_number) →
-      number_of (first_of f (xs ++ ys)) ≡ cond (eqb (number_of (first_of f xs)) no_number) (number_of (first_of f ys)) (number_of (first_of f xs))
+  first_append : (xs ys : List ℕ) → hit_of (first_of f (xs ++ ys)) ≡ option_or (hit_of (first_of f xs)) (hit_of (first_of f ys))
   unfolding first_of
-  first_append [] ys h = refl
-  first_append (x ∷ xs) ys h = go (f x) (first_of f (xs ++ ys)) (first_of f xs) (number_of (first_of f ys)) (first_append xs ys (λ y m. h y (there m)))
+  first_append [] ys = refl
+  first_append (x ∷ xs) ys = go (f x) (first_of f (xs ++ ys)) (first_of f xs) (hit_of (first_of f ys)) (first_append xs ys)
     where
-      go : (b : Bool) (r s : Option ℕ) (z : ℕ) → number_of r ≡ cond (eqb (number_of s) no_number) z (number_of s) →
-          number_of (cond b (some x) r) ≡ cond (eqb (number_of (cond b (some x) s)) no_number) z (number_of (cond b (some x) s))
-      go true r s z e = let l = h x (here refl) in sym (cond_false _ _ (ne_eqb x no_number (λ q. omega arith)))
+      go : (b : Bool) (r s : Rules.Option ℕ) (z : Option ℕ) → hit_of r ≡ option_or (hit_of s) z →
+          hit_of (cond b (some x) r) ≡ option_or (hit_of (cond b (some x) s)) z
+      go true r s z e = refl
       go false r s z e = e
 
   -- the first hit of a run of scans is that of their lists side by side
-  over_number : (of : ℕ → List ℕ) (g : ℕ → ℕ) (i n : ℕ) → ((k : ℕ) → Mem k (up_from i n) → g k ≡ number_of (first_of f (of k))) →
-      ((k x : ℕ) → Mem x (of k) → x < no_number) → over_in g i n ≡ number_of (first_of f (flat_map of (up_from i n)))
+  over_hits : (of : ℕ → List ℕ) (g : ℕ → Option ℕ) (i n : ℕ) → ((k : ℕ) → Mem k (up_from i n) → g k ≡ hit_of (first_of f (of k))) →
+      over_in g i n ≡ hit_of (first_of f (flat_map of (up_from i n)))
   unfolding first_of over_in up_from flat_map
-  over_number of g i zero e h = refl
-  over_number of g i (suc n) e h =
-      ap₂ (λ (x y : ℕ). cond (eqb x no_number) y x) (e i (here refl)) (over_number of g (suc i) n (λ k m. e k (there m)) h) ∙
-      sym (first_append (of i) (flat_map of (up_from (suc i) n)) (h i))
+  over_hits of g i zero e = refl
+  over_hits of g i (suc n) e =
+      ap₂ option_or (e i (here refl)) (over_hits of g (suc i) n (λ k m. e k (there m))) ∙ sym (first_append (of i) (flat_map of (up_from (suc i) n)))
 
 -- WHAT THE TABLES TELL
 module _ (t : Tables) (c : Catalogue) (holds : Holds t c) where
   -- whether a need leaves a state out
-  left_out : (k x : ℕ) → leaves_out_in t.values t.lows t.highs k x ≡ leaves_out c k x
+  left_out : (k x : ℕ) → leaves_out_in t k x ≡ leaves_out c k x
   unfolding in_range
   left_out k zero = refl
   left_out k (suc i) = go (holds.lows k) (holds.highs k) (holds.values i)
@@ -76,7 +83,7 @@ module _ (t : Tables) (c : Catalogue) (holds : Holds t c) where
 
   -- whether it leaves out what is chosen of the module that it names
   pub chosen_left_out : WellFormed c → (chosen : List ℕ) (k : ℕ) → k < length c.needs →
-      leaves_out_in t.values t.lows t.highs k (get_or chosen (get_or t.targets k 0) 0) ≡
+      leaves_out_in t k (get_or chosen (get_or t.targets k 0) 0) ≡
       leaves_out c k (chosen_at (chosen_of c chosen) (need_at c k).target)
   chosen_left_out well chosen k l =
       left_out k (get_or chosen (get_or t.targets k 0) 0) ∙
@@ -84,16 +91,15 @@ module _ (t : Tables) (c : Catalogue) (holds : Holds t c) where
       (ap (λ (x : ℕ). get_or chosen x 0) (holds.targets k) ∙ sym (get_or-take c.modules chosen (need_at c k).target 0 (well.targets k l)))
 
   -- the first hit among the needs that a state brings
-  pub state_number : (f : ℕ → Bool) (x : ℕ) → scan_state t.starts t.marks f x ≡ number_of (first_of f (needs_at c x))
+  pub state_hit : (f : ℕ → Bool) (x : ℕ) → scan_state t f x ≡ hit_of (first_of f (needs_at c x))
   unfolding first_of
-  state_number f zero = refl
-  state_number f (suc j) = first_number f _ _ ∙ ap (λ (l : List ℕ). number_of (first_of f l)) (sym (holds.needs j))
+  state_hit f zero = refl
+  state_hit f (suc j) = first_hit f _ _ ∙ ap (λ (l : List ℕ). hit_of (first_of f l)) (sym (holds.needs j))
 
 -- THE LAW: module m is tried at place i, and every chosen version is one of its module
 module _
     (t : Tables) (c : Catalogue) (chosen : List ℕ) (m i : ℕ)
-    (holds : Holds t c) (well : WellFormed c) (few : length c.needs ≤ no_number)
-    (placed : Chosen c chosen) (fits : m < c.modules) (is : is_of c m i ≡ true)
+    (holds : Holds t c) (well : WellFormed c) (placed : Chosen c chosen) (fits : m < c.modules) (is : is_of c m i ≡ true)
   where
     -- what is chosen, and the state of each module in the trial
     abbrev s : Selection
@@ -129,7 +135,7 @@ module _
 
     -- the tests agree on the needs of a module's version
     tests_agree : (k n : ℕ) → Mem n (needs_at c (states k)) →
-        bars_in t.values t.targets t.lows t.highs chosen (eqb k m) m (suc i) n ≡ bars c s m i n
+        bars_in t chosen (eqb k m) m (suc i) n ≡ bars c s m i n
     tests_agree k n h =
         let need = needs_at_mem c (states k) h in
         go (own_need k (need_at c n).version need.0) (chosen_left_out t c holds well chosen n need.1)
@@ -139,19 +145,18 @@ module _
         go p q r = rw (p, q, r)
 
     -- the scan of a module
-    scan_number : (k : ℕ) → k < c.modules →
-        scan_in t.values t.starts t.marks t.targets t.lows t.highs chosen m (suc i) k ≡
-        number_of (first_of (bars c s m i) (needs_at c (states k)))
-    scan_number k h =
-        let f = bars_in t.values t.targets t.lows t.highs chosen (eqb k m) m (suc i) in
-        ap (scan_state t.starts t.marks f) (state_of_lem k h) ∙ state_number t c holds f (states k) ∙
-        ap number_of (first_agree f (bars c s m i) (needs_at c (states k)) (λ n q. tests_agree k n q))
+    scan_hit : (k : ℕ) → k < c.modules →
+        scan_in t chosen m (suc i) k ≡
+        hit_of (first_of (bars c s m i) (needs_at c (states k)))
+    scan_hit k h =
+        let f = bars_in t chosen (eqb k m) m (suc i) in
+        ap (scan_state t f) (state_of_lem k h) ∙ state_hit t c holds f (states k) ∙
+        ap hit_of (first_agree f (bars c s m i) (needs_at c (states k)) (λ n q. tests_agree k n q))
 
     -- the scan of all modules
     pub barring_law :
-        over_in (scan_in t.values t.starts t.marks t.targets t.lows t.highs chosen m (suc i)) 0 c.modules ≡
-        number_of (barring c s m i)
+        over_in (scan_in t chosen m (suc i)) 0 c.modules ≡
+        hit_of (barring c s m i)
     unfolding barring asked
     barring_law =
-        over_number (bars c s m i) (λ (k : ℕ). needs_at c (states k)) _ 0 c.modules (λ k q. scan_number k (below_mem q))
-        (λ k n q. let need = needs_at_mem c (states k) q in omega arith)
+        over_hits (bars c s m i) (λ (k : ℕ). needs_at c (states k)) _ 0 c.modules (λ k q. scan_hit k (below_mem q))

@@ -6,10 +6,12 @@ use mathlib.Core.Bool.{Bool, true, false, not, and-false}
 use mathlib.Core.List.Memᴰ.{head as here}
 use mathlib.Core.List.Memᴰ.{tail as there}
 use mathlib.Core.List.{List, [], ◌∷◌, Memᴰ as Mem}
-use mathlib.Core.Option.{Option, none, some}
+use mathlib.Core.Option as Rules
+use mathlib.Core.Option.{none, some}
+use Rattle.std.specs.Prelude.{Option, is_none}
 use Prim.Native.Nat.{ℕ, suc, ◌≤◌, ◌<◌}
 use native.Mathlib.Omega.{arith}
-use lib.Dec.{leb, eqb}
+use lib.Dec.{leb}
 use lib.ListN.{length, get_or}
 use lib.Seq.{length-take-le}
 use borrow.Author.Tests.{leb-true, ltb-true, le-leb, lt-ltb, eq-eqb, ne_eqb, not-true, not-false}
@@ -20,12 +22,13 @@ use Rattle.rules.specs.Search.{bars, barring, leaves_out}
 use Rattle.rules.proofs.Lists.{true_or_false, not_both, and_fst, and_snd, and_both, cond_true, first_mem, first_none}
 use Rattle.rules.proofs.Selections.{suc_not_zero, chosen_new, of_parts, needs_at_mem, mem_needs_at, asked_mem, mem_asked, asked_keeps, Next, next_first}
 use Rattle.rules.proofs.Partials.{choice_cases, choice_keeps, bars_cases}
-use Rattle.store.specs.Tables.{Tables, Holds}
+use Rattle.store.specs.declared.tables.Tables.{Tables}
+use Rattle.store.specs.Tables.{Holds}
 use Rattle.moves.specs.declared.wanted.Wanted.{Wanted}
 use Rattle.moves.specs.Fitting.{fits_in}
-use Rattle.moves.specs.Scan.{no_number, number_of, bars_in, scan_state}
+use Rattle.moves.specs.Scan.{bars_in, scan_state}
 use Rattle.moves.proofs.Chosen.{chosen_of, Chosen}
-use Rattle.moves.proofs.Barring.{chosen_left_out, state_number}
+use Rattle.moves.proofs.Barring.{hit_of, chosen_left_out, state_hit}
 use Rattle.moves.proofs.Asked.{wanted_of, within_all, all_within}
 
 -- nothing passes a test that every member fails
@@ -43,7 +46,7 @@ parts_within a b v h = and_both (le-leb a v h.0) (lt-ltb v b h.1)
 
 -- module m is next, and is tried at place i
 module _
-    (t : Tables) (c : Catalogue) (holds : Holds t c) (w : WellFormed c) (few : c.modules ≤ 32) (numbers : length c.needs ≤ no_number)
+    (t : Tables) (c : Catalogue) (holds : Holds t c) (w : WellFormed c) (few : c.modules ≤ 32)
     (chosen : List ℕ) (placed : Chosen c chosen) (m : ℕ) (ms : List ℕ) (is-next : next_modules c (chosen_of c chosen) ≡ m ∷ ms)
     (i : ℕ) (is : is_of c m i ≡ true)
   where
@@ -94,10 +97,10 @@ module _
 
     -- THE VERSION'S OWN NEEDS, against what is chosen
     abbrev own : ℕ → Bool
-    own = bars_in t.values t.targets t.lows t.highs chosen true wanted.owner.0 (suc i)
+    own = bars_in t chosen true wanted.owner.0 (suc i)
 
-    abbrev own_bar : ℕ
-    own_bar = scan_state t.starts t.marks own (suc i)
+    abbrev own_bar : Option ℕ
+    own_bar = scan_state t own (suc i)
 
     own_bars : (k : ℕ) → Mem k (needs_at c (suc i)) → own k ≡ bars c s m i k
     own_bars k g =
@@ -105,24 +108,23 @@ module _
         let version : (need_at c k).version ≡ i = let e = need.0 in omega arith in
         chosen_left_out t c holds w chosen k need.1 ∙ sym (cond_true _ _ (eq-eqb _ i version))
 
-    own_free : ((k : ℕ) → Mem k (needs_at c (suc i)) → bars c s m i k ≡ false) → eqb own_bar no_number ≡ true
-    own_free every =
-        eq-eqb own_bar no_number
-        (state_number t c holds own (suc i) ∙ ap number_of (none_first own (needs_at c (suc i)) (λ k g. own_bars k g ∙ every k g)))
+    own_hit : own_bar ≡ hit_of (first_of own (needs_at c (suc i)))
+    own_hit = state_hit t c holds own (suc i)
 
-    own_barred : (k : ℕ) → Mem k (needs_at c (suc i)) → bars c s m i k ≡ true → eqb own_bar no_number ≡ false
+    own_free : ((k : ℕ) → Mem k (needs_at c (suc i)) → bars c s m i k ≡ false) → is_none own_bar ≡ true
+    own_free every =
+        ap is_none (own_hit ∙ ap hit_of (none_first own (needs_at c (suc i)) (λ k g. own_bars k g ∙ every k g)))
+
+    own_barred : (k : ℕ) → Mem k (needs_at c (suc i)) → bars c s m i k ≡ true → is_none own_bar ≡ false
     own_barred k g b = go (first_of own (needs_at c (suc i))) refl
       where
-        go : (x : Option ℕ) → first_of own (needs_at c (suc i)) ≡ x → eqb own_bar no_number ≡ false
+        go : (x : Rules.Option ℕ) → first_of own (needs_at c (suc i)) ≡ x → is_none own_bar ≡ false
         go none e = absurd (not_both (own_bars k g ∙ b) (first_none own e g))
-        go (some j) e =
-            let l = (needs_at_mem c (suc i) (first_mem own (needs_at c (suc i)) j e).0).1 in
-            let number : own_bar ≡ j = state_number t c holds own (suc i) ∙ ap number_of e in
-            ne_eqb own_bar no_number (λ q. omega arith)
+        go (some j) e = ap is_none (own_hit ∙ ap hit_of e)
 
     -- THE LAWS
     abbrev fit : Bool
-    fit = fits_in t.values t.starts t.marks t.targets t.lows t.highs chosen wanted i
+    fit = fits_in t chosen wanted i
 
     -- a need of another version bars the trial just if it names the module and leaves the version out
     named_bars : (k : ℕ) → (need_at c k).version ≢ i → (need_at c k).target ≡ m → bars c s m i k ≡ not (in_range c (need_at c k) i)

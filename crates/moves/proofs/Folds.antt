@@ -1,4 +1,4 @@
--- Folds over a run of numbers, as a loop makes them: what holds at each turn, and the three lemmas of the loop. Assumes nothing.
+-- Folds over a run of numbers, as a loop makes them: what holds at each turn, and the lemmas of a turn and of the end. Assumes nothing.
 use mathlib.Core.Path.{◌≡◌, sym, ◌∙◌, ap}
 use Prim.Native.Nat.{ℕ, suc, ◌+◌, ◌-◌, ◌≤◌, ◌<◌}
 use native.Mathlib.Omega.{arith}
@@ -11,12 +11,6 @@ pub record Folded {A : Type 0} (h : ℕ → A → A) (start : A) (first count : 
   pub same : fold_in h start first count ≡ fold_in h now k (first + count - k)
 
 module _ {A : Type 0} (h : ℕ → A → A) (start : A) (first count : ℕ) where
-  -- before the first turn
-  pub none_done : {now : A} → now ≡ start → Folded h start first count now first
-  none_done s =
-      let e : first + count - first ≡ count = omega arith in
-      record { within = omega arith; same = rw (e, s) }
-
   module _ {now : A} {k : ℕ} (f : Folded h start first count now k) where
     -- one turn
     pub one_done : (next : A) → k < first + count → next ≡ h k now → Folded h start first count next (k + 1)

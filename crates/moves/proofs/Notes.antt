@@ -1,12 +1,11 @@
--- One line noted: what it leaves, with room and without (`told_over`, `told_noted`), and when there is room (`has_room`). Assumes nothing.
+-- One line noted: what it leaves, with room and without (`told_over`, `told_noted`). Assumes nothing.
 use mathlib.Core.Path.{◌≡◌, refl, sym}
 use mathlib.Core.Bool.{Bool, true, false, ◌||◌}
 use mathlib.Core.List.{List}
-use Prim.Native.Nat.{ℕ, ◌+◌, ◌*◌, ◌-◌, ◌≤◌, ◌<◌}
+use Prim.Native.Nat.{ℕ, ◌+◌, ◌*◌, ◌-◌}
 use lib.Dec.{ltb, leb}
 use lib.ListN.{length}
 use lib.Seq.{sets}
-use borrow.Author.Tests.{leb-false, ltb-false}
 use Rattle.rules.specs.Frames.{frame_text}
 use Rattle.rules.proofs.Lists.{cond_true, cond_false, not_both}
 use Rattle.moves.specs.Noting.{Sheet, sheet, noted, is_over, note_in}
@@ -28,19 +27,13 @@ module _ (a : ℕ) (bs : List ℕ) (s : Sheet) where
   unfolding note_in
   note_room e = cond_false _ _ e
 
--- there is room for one more line
+-- what the code reads of the room that is left
 module _ (a : ℕ) (s : Sheet) {room : ℕ} (is-room : room ≡ length s.area - s.noted.end) where
   abbrev as_read : Bool
   as_read = s.noted.over || leb a s.noted.lines || ltb room 15
 
   as_read_lem : {b : Bool} → as_read ≡ b → is_over a s ≡ b
   as_read_lem e = rw (← is-room) e
-
-  pub has_room : as_read ≡ false → (s.noted.lines < a) × (15 ≤ length s.area - s.noted.end)
-  has_room e =
-      let parts = neither _ _ (as_read_lem e) in
-      let first = neither s.noted.over (leb a s.noted.lines) parts.0 in
-      (leb-false a _ first.1, ltb-false _ 15 parts.1)
 
   module _ (bs : List ℕ) where
     pub told_over : as_read ≡ true → sheet s.area (noted s.noted.lines s.noted.end true) ≡ note_in a bs s

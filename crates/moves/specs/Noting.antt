@@ -4,6 +4,7 @@ use Rattle.std.proofs.lemmas.List.Edits.{sets}
 use Rattle.rules.specs.Frames.{frame_text}
 use Rattle.rules.specs.Sheet.{Entry, cites, resolves}
 use Rattle.moves.specs.declared.noting.Noted.{Noted}
+use Rattle.moves.specs.declared.noting.Sheet as Kept
 
 abbrev pub noted : (lines end : ℕ) → (over : Bool) → Noted
 noted n e o = record { lines = n; end = e; over = o }
@@ -15,6 +16,14 @@ pub record Sheet : Type 0 where
 
 abbrev pub sheet : (area : List ℕ) → Noted → Sheet
 sheet a n = record { area = a; noted = n }
+
+-- what the code keeps of them
+abbrev pub sheet_of : Kept.Sheet → Sheet
+sheet_of s = sheet s.area.now s.noted
+
+-- no line yet
+abbrev pub fresh : (area : List ℕ) → Sheet
+fresh a = sheet a (noted 0 0 false)
 
 -- the next line's number
 abbrev pub number_in : Sheet → ℕ

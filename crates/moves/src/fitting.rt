@@ -2,75 +2,48 @@
 ghost use Rattle.std.specs.Prelude.{◌≡◌, suc};
 ghost use Rattle.rules.specs.Sheet.{cites};
 ghost use Rattle.moves.specs.Fitting.{fits_in};
-ghost use Rattle.moves.specs.Noting.{sheet, note_in, entry_bytes};
-ghost use Rattle.moves.specs.Scan.{scan_in, over_in};
+ghost use Rattle.moves.specs.Noting.{sheet_of, note_in, entry_bytes};
+ghost use Rattle.moves.specs.Scan.{number_of, scan_in, over_in};
 
-use crate::noting::Noted;
-use crate::scan::NONE;
+use crate::noting::Sheet;
+use crate::scan;
 use crate::wanted::Wanted;
-use crate::{noting, scan};
 use frames::numbers::{ModuleNo, Place};
-use store::limits::{MODULES, NEEDS, VERSIONS};
+use store::limits::MODULES;
 use store::lookup;
+use store::tables::Tables;
 
 // The version at a place lies in the range that is left to the wanted module, and none of its own needs leaves out a chosen version.
-pub fn fits<'a>(
-    values: &'a [u32; VERSIONS as usize],
-    starts: &'a [u16; VERSIONS as usize],
-    marks: &'a [u16; VERSIONS as usize],
-    targets: &'a [u16; NEEDS as usize],
-    lows: &'a [u32; NEEDS as usize],
-    highs: &'a [u32; NEEDS as usize],
-    chosen: &'a [u16; MODULES as usize],
-    w: Wanted,
-    p: Place,
-) -> bool
-    ensures { result ≡ fits_in values.now starts.now marks.now targets.now lows.now
-        highs.now chosen.now w p.0 }
+pub fn fits(t: &Tables, chosen: &[u16; MODULES as usize], w: Wanted, p: Place) -> bool
+    ensures { result ≡ fits_in t.now chosen.now w p.0 }
 {
-    let v = lookup::version_at(values, p);
-    let low = w.low;
-    let high = w.high;
-    let within = v.is_within(low, high);
+    let v = lookup::version_at(&t.values, p);
+    let within = v.is_within(w.low, w.high);
     if !within {
         return false;
     }
-    let own = lookup::needs_of(starts, marks, p);
-    let m = w.owner;
-    let k = scan::first_bar(
-        values, targets, lows, highs, chosen, true, m, p, own.first, own.count,
-    );
-    k == NONE
+    let own = lookup::needs_of(&t.starts, &t.marks, p);
+    let bar = scan::first_bar(t, chosen, true, w.owner, p, own);
+    bar.is_none()
 }
 
-// The need that bars a trial of module m at a place is cited. It is looked for only as long as lines have room.
-pub fn cite_bar<'a>(
-    values: &'a [u32; VERSIONS as usize],
-    starts: &'a [u16; VERSIONS as usize],
-    marks: &'a [u16; VERSIONS as usize],
-    targets: &'a [u16; NEEDS as usize],
-    lows: &'a [u32; NEEDS as usize],
-    highs: &'a [u32; NEEDS as usize],
-    chosen: &'a [u16; MODULES as usize],
-    work: &mut [u8],
+// The need that bars a trial of module m at a place is cited; where none does, the greatest number. It is looked for only as long as lines have room.
+pub fn cite_bar(
+    t: &Tables,
+    chosen: &[u16; MODULES as usize],
     modules: u16,
-    allowance: u16,
-    noted: Noted,
+    sheet: &mut Sheet,
     m: ModuleNo,
     p: Place,
-) -> Noted
-    ensures told { result ≡ (note_in allowance (entry_bytes (cites (over_in (scan_in values.now starts.now marks.now
-        targets.now lows.now highs.now chosen.now m.0 (suc p.0)) 0 modules)))
-        (sheet work.old noted)).noted }
-    ensures area { work.new ≡ (note_in allowance (entry_bytes (cites (over_in (scan_in values.now starts.now
-        marks.now targets.now lows.now highs.now chosen.now m.0 (suc p.0)) 0 modules)))
-        (sheet work.old noted)).area }
+)
+    ensures same { sheet.new.area.ghost_name ≡ sheet.old.area.ghost_name }
+    ensures allowance { sheet.new.allowance ≡ sheet.old.allowance }
+    ensures sheet { sheet_of sheet.new ≡ note_in sheet.old.allowance
+        (entry_bytes (cites (number_of (over_in (scan_in t.now chosen.now m.0 (suc p.0)) 0 modules)))) (sheet_of sheet.old) }
 {
-    if noted.over {
-        return noted;
+    if sheet.noted.over {
+        return;
     }
-    let k = scan::barring(
-        values, starts, marks, targets, lows, highs, chosen, modules, m, p,
-    );
-    noting::cite(work, noted, allowance, k)
+    let hit = scan::barring(t, chosen, modules, m, p);
+    sheet.cite(hit.unwrap_or(u32::MAX));
 }

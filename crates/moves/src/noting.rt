@@ -1,7 +1,7 @@
 // The lines of a sheet, noted in the work area while it isn't known yet whether there is a selection.
 ghost use Rattle.std.specs.Prelude.{◌≡◌, ◌-◌, ◌≤◌, length};
 ghost use Rattle.rules.specs.Sheet.{cites, resolves};
-ghost use Rattle.moves.specs.Noting.{sheet, note_in, entry_bytes};
+ghost use Rattle.moves.specs.Noting.{sheet_of, fresh, note_in, entry_bytes};
 
 use frames::kinds::{NEED_LINE, RESOLVED};
 use frames::numbers::ModuleNo;
@@ -15,62 +15,81 @@ pub struct Noted {
     pub over: bool,
 }
 
+// The lines of a sheet in the work area, and how many it may have.
+#[derive(Drop)]
+pub struct Sheet<'a> {
+    pub area: &'a mut [u8],
+    pub noted: Noted,
+    pub allowance: u16,
+}
+
 // Bytes of the longest line.
 const LINE: usize = 15;
 
-// What is left of a length behind a place.
-fn left_behind(size: usize, at: usize) -> usize
-    ensures { result ≡ size - at }
-{
-    if size < at {
-        return 0;
+impl<'a> Sheet<'a> {
+    // A sheet with no line yet.
+    pub fn new(area: &'a mut [u8], allowance: u16) -> Sheet<'a>
+        ensures same { result.area.ghost_name ≡ area.entry.ghost_name }
+        ensures allowance { result.allowance ≡ allowance }
+        ensures sheet { sheet_of result ≡ fresh area.old }
+    {
+        Sheet {
+            area,
+            noted: Noted {
+                lines: 0,
+                end: 0,
+                over: false,
+            },
+            allowance,
+        }
     }
-    size - at
-}
 
-// A frame's line is noted, or it is told that it has no room.
-fn note(work: &mut [u8], n: Noted, allowance: u16, bytes: &[u8]) -> Noted
-    requires { length bytes.now ≤ 6 }
-    ensures told { result ≡ (note_in allowance bytes.now (sheet work.old n)).noted }
-    ensures area { work.new ≡ (note_in allowance bytes.now (sheet work.old n)).area }
-{
-    let room = left_behind(work.len(), n.end);
-    if n.over | (allowance <= n.lines) | (room < LINE) {
-        return Noted {
-            lines: n.lines,
-            end: n.end,
-            over: true,
+    // A frame's line is noted, or it is told that it has no room.
+    fn note(&mut self, bytes: &[u8])
+        requires { length bytes.now ≤ 6 }
+        ensures same { self.new.area.ghost_name ≡ self.old.area.ghost_name }
+        ensures allowance { self.new.allowance ≡ self.old.allowance }
+        ensures sheet { sheet_of self.new ≡ note_in self.old.allowance bytes.now (sheet_of self.old) }
+    {
+        let n = self.noted;
+        let room = self.area.len().saturating_sub(n.end);
+        let allowance = self.allowance;
+        if n.over | (allowance <= n.lines) | (room < LINE) {
+            self.noted.over = true;
+            return;
+        }
+        let end = written::write_frame(self.area, n.end, bytes);
+        self.noted = Noted {
+            lines: n.lines + 1,
+            end,
+            over: false,
         };
     }
-    let end = written::write_frame(work, n.end, bytes);
-    Noted {
-        lines: n.lines + 1,
-        end: end,
-        over: false,
+
+    // A need line.
+    pub fn cite(&mut self, k: u32)
+        ensures same { self.new.area.ghost_name ≡ self.old.area.ghost_name }
+        ensures allowance { self.new.allowance ≡ self.old.allowance }
+        ensures sheet { sheet_of self.new ≡ note_in self.old.allowance (entry_bytes (cites k)) (sheet_of self.old) }
+    {
+        let bytes = [NEED_LINE, (k / 256 % 256) as u8, (k % 256) as u8];
+        self.note(&bytes);
     }
-}
 
-// A need line.
-pub fn cite(work: &mut [u8], n: Noted, allowance: u16, k: u32) -> Noted
-    ensures told { result ≡ (note_in allowance (entry_bytes (cites k)) (sheet work.old n)).noted }
-    ensures area { work.new ≡ (note_in allowance (entry_bytes (cites k)) (sheet work.old n)).area }
-{
-    let bytes = [NEED_LINE, (k / 256 % 256) as u8, (k % 256) as u8];
-    note(work, n, allowance, &bytes)
-}
-
-// A resolved line, from two lines at a module.
-pub fn resolve(work: &mut [u8], n: Noted, allowance: u16, a: u16, b: u16, m: ModuleNo) -> Noted
-    ensures told { result ≡ (note_in allowance (entry_bytes (resolves a b m.0)) (sheet work.old n)).noted }
-    ensures area { work.new ≡ (note_in allowance (entry_bytes (resolves a b m.0)) (sheet work.old n)).area }
-{
-    let bytes = [
-        RESOLVED,
-        (a / 256 % 256) as u8,
-        (a % 256) as u8,
-        (b / 256 % 256) as u8,
-        (b % 256) as u8,
-        (m.0 % 256) as u8,
-    ];
-    note(work, n, allowance, &bytes)
+    // A resolved line, from two lines at a module.
+    pub fn resolve(&mut self, a: u16, b: u16, m: ModuleNo)
+        ensures same { self.new.area.ghost_name ≡ self.old.area.ghost_name }
+        ensures allowance { self.new.allowance ≡ self.old.allowance }
+        ensures sheet { sheet_of self.new ≡ note_in self.old.allowance (entry_bytes (resolves a b m.0)) (sheet_of self.old) }
+    {
+        let bytes = [
+            RESOLVED,
+            (a / 256 % 256) as u8,
+            (a % 256) as u8,
+            (b / 256 % 256) as u8,
+            (b % 256) as u8,
+            (m.0 % 256) as u8,
+        ];
+        self.note(&bytes);
+    }
 }

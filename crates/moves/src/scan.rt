@@ -2,162 +2,107 @@
 ghost use Rattle.std.specs.Prelude.{◌≡◌, suc};
 ghost use Rattle.moves.specs.Scan.{leaves_out_in, bars_in, first_in, scan_in, over_in};
 
+use frames::access::at;
 use frames::numbers::{ModuleNo, Place, Version};
-use store::limits::{MODULES, NEEDS, VERSIONS};
-use store::{access, lookup};
-
-// What stands for no need.
-pub const NONE: u32 = 4294967295;
+use store::limits::MODULES;
+use store::lookup;
+use store::lookup::Span;
+use store::tables::Tables;
 
 // Need k leaves out the version at a place.
-pub fn leaves_out<'a>(
-    values: &'a [u32; VERSIONS as usize],
-    lows: &'a [u32; NEEDS as usize],
-    highs: &'a [u32; NEEDS as usize],
-    k: u32,
-    p: Place,
-) -> bool
-    ensures { result ≡ leaves_out_in values.now lows.now highs.now k (suc p.0) }
+pub fn leaves_out(t: &Tables, k: u32, p: Place) -> bool
+    ensures { result ≡ leaves_out_in t.now k (suc p.0) }
 {
-    let at = k as usize;
-    let v = lookup::version_at(values, p);
-    let low = Version(access::word_at(lows, at));
-    let high = Version(access::word_at(highs, at));
+    let v = lookup::version_at(&t.values, p);
+    let low = Version(at(&t.lows, k as usize, 0));
+    let high = Version(at(&t.highs, k as usize, 0));
     !v.is_within(low, high)
 }
 
 // Need k bars the trial of module m at a place: m's own need leaves out what is chosen, or another's need that names m leaves out the version tried.
-pub fn bars<'a>(
-    values: &'a [u32; VERSIONS as usize],
-    targets: &'a [u16; NEEDS as usize],
-    lows: &'a [u32; NEEDS as usize],
-    highs: &'a [u32; NEEDS as usize],
-    chosen: &'a [u16; MODULES as usize],
+pub fn bars(
+    t: &Tables,
+    chosen: &[u16; MODULES as usize],
     own: bool,
     m: ModuleNo,
     p: Place,
     k: u32,
 ) -> bool
-    ensures { result ≡ bars_in values.now targets.now lows.now highs.now chosen.now
-        own m.0 (suc p.0) k }
+    ensures { result ≡ bars_in t.now chosen.now own m.0 (suc p.0) k }
 {
-    let target = access::half_at(targets, k as usize);
+    let target = ModuleNo(at(&t.targets, k as usize, 0));
     if own {
-        let met = access::half_at(chosen, target as usize);
+        let met = at(chosen, target.0 as usize, 0);
         if met == 0 {
             return false;
         }
-        return leaves_out(values, lows, highs, k, Place(met - 1));
+        return leaves_out(t, k, Place(met - 1));
     }
-    if target == m.0 {
-        return leaves_out(values, lows, highs, k, p);
+    if target == m {
+        return leaves_out(t, k, p);
     }
     false
 }
 
 // The first need of a run that bars the trial.
-pub fn first_bar<'a>(
-    values: &'a [u32; VERSIONS as usize],
-    targets: &'a [u16; NEEDS as usize],
-    lows: &'a [u32; NEEDS as usize],
-    highs: &'a [u32; NEEDS as usize],
-    chosen: &'a [u16; MODULES as usize],
+pub fn first_bar(
+    t: &Tables,
+    chosen: &[u16; MODULES as usize],
     own: bool,
     m: ModuleNo,
     p: Place,
-    first: u16,
-    count: u16,
-) -> u32
-    ensures { result ≡ first_in (bars_in values.now targets.now lows.now highs.now chosen.now
-        own m.0 (suc p.0)) first count }
+    needs: Span,
+) -> Option<u32>
+    ensures { result ≡ first_in (bars_in t.now chosen.now own m.0 (suc p.0)) needs.first needs.count }
 {
-    let mut k = first as u32;
-    let end = first as u32 + count as u32;
-    while k < end {
-        let hit = bars(values, targets, lows, highs, chosen, own, m, p, k);
+    let first = needs.first as u32;
+    let end = first + needs.count as u32;
+    for k in first..end {
+        let hit = bars(t, chosen, own, m, p, k);
         if hit {
-            return k;
+            return Some(k);
         }
-        k += 1;
     }
-    NONE
+    None
 }
 
 // The first need of module k that bars the trial of module m at a place.
-pub fn scan_module<'a>(
-    values: &'a [u32; VERSIONS as usize],
-    starts: &'a [u16; VERSIONS as usize],
-    marks: &'a [u16; VERSIONS as usize],
-    targets: &'a [u16; NEEDS as usize],
-    lows: &'a [u32; NEEDS as usize],
-    highs: &'a [u32; NEEDS as usize],
-    chosen: &'a [u16; MODULES as usize],
+pub fn scan_module(
+    t: &Tables,
+    chosen: &[u16; MODULES as usize],
     m: ModuleNo,
     p: Place,
     k: ModuleNo,
-) -> u32
-    ensures { result ≡ scan_in values.now starts.now marks.now targets.now lows.now
-        highs.now chosen.now m.0 (suc p.0) k.0 }
+) -> Option<u32>
+    ensures { result ≡ scan_in t.now chosen.now m.0 (suc p.0) k.0 }
 {
-    if k.0 == m.0 {
-        let own = lookup::needs_of(starts, marks, p);
-        return first_bar(
-            values, targets, lows, highs, chosen, true, m, p, own.first, own.count,
-        );
+    if k == m {
+        let own = lookup::needs_of(&t.starts, &t.marks, p);
+        return first_bar(t, chosen, true, m, p, own);
     }
-    let other = access::half_at(chosen, k.0 as usize);
+    let other = at(chosen, k.0 as usize, 0);
     if other == 0 {
-        return NONE;
+        return None;
     }
-    let needs = lookup::needs_of(starts, marks, Place(other - 1));
-    first_bar(
-        values,
-        targets,
-        lows,
-        highs,
-        chosen,
-        false,
-        m,
-        p,
-        needs.first,
-        needs.count,
-    )
+    let needs = lookup::needs_of(&t.starts, &t.marks, Place(other - 1));
+    first_bar(t, chosen, false, m, p, needs)
 }
 
 // The first need that bars the trial of module m at a place, over all modules in turn.
-pub fn barring<'a>(
-    values: &'a [u32; VERSIONS as usize],
-    starts: &'a [u16; VERSIONS as usize],
-    marks: &'a [u16; VERSIONS as usize],
-    targets: &'a [u16; NEEDS as usize],
-    lows: &'a [u32; NEEDS as usize],
-    highs: &'a [u32; NEEDS as usize],
-    chosen: &'a [u16; MODULES as usize],
+pub fn barring(
+    t: &Tables,
+    chosen: &[u16; MODULES as usize],
     modules: u16,
     m: ModuleNo,
     p: Place,
-) -> u32
-    ensures { result ≡ over_in (scan_in values.now starts.now marks.now targets.now lows.now
-        highs.now chosen.now m.0 (suc p.0)) 0 modules }
+) -> Option<u32>
+    ensures { result ≡ over_in (scan_in t.now chosen.now m.0 (suc p.0)) 0 modules }
 {
-    let mut k: u16 = 0;
-    while k < modules {
-        let hit = scan_module(
-            values,
-            starts,
-            marks,
-            targets,
-            lows,
-            highs,
-            chosen,
-            m,
-            p,
-            ModuleNo(k),
-        );
-        if hit != NONE {
+    for k in 0..modules {
+        let hit = scan_module(t, chosen, m, p, ModuleNo(k));
+        if hit.is_some() {
             return hit;
         }
-        k += 1;
     }
-    NONE
+    None
 }

@@ -11,7 +11,6 @@ use Prim.Native.Nat.{ℕ, zero, suc, ◌+◌, ◌-◌, ◌≤◌, ◌<◌}
 use native.Mathlib.Omega.{arith}
 use lib.ListN.{length, set, length-append}
 use lib.Seq.{get_or-take, set-set, set-get_or}
-use borrow.Author.Tests.{eq-eqb, ne_eqb}
 use Rattle.rules.specs.Lists.{down_from}
 use Rattle.rules.specs.Catalogue.{Catalogue, is_of}
 use Rattle.rules.specs.Selection.{Selection, chosen_at, with_choice, next_modules}
@@ -21,12 +20,13 @@ use Rattle.rules.proofs.Lists.{true_or_false, cond_true, cond_false, keep_mem}
 use Rattle.rules.proofs.Selections.{next_first}
 use Rattle.rules.proofs.Searches.{next_cases, search_done, search_next}
 use Rattle.rules.proofs.Sheets.{lines_next}
+use Rattle.std.specs.Prelude as Code
+use Rattle.std.specs.Prelude.{Some, None}
 use Rattle.search.specs.declared.choices.Choices.{Choices}
 use Rattle.moves.specs.declared.wanted.Wanted.{Wanted}
 use Rattle.search.specs.Choosing.{choices}
-use Rattle.moves.specs.Wanted.{no_module}
 use Rattle.moves.specs.Noting.{Sheet, note_in, number_in, entry_bytes}
-use Rattle.search.specs.Walking.{Moves, Walked, walked, taken_back, try_walk, each_walk, walk_in}
+use Rattle.search.specs.Walking.{Moves, Walked, walked, taken_back, if_wanted, try_walk, each_walk, walk_in}
 use Rattle.moves.proofs.NotedLines.{notes_in, notes_append, notes_last, over_stays, room_before, exact}
 use Rattle.moves.proofs.Chosen.{chosen_of, Chosen, same_choice, chosen_more}
 use Rattle.search.proofs.Follows.{Asks, Follows}
@@ -52,7 +52,7 @@ module _ (c : Catalogue) (few : c.modules ≤ 32) (v : Moves) (follows : Follows
     s = chosen_of c ch
 
     abbrev w : Wanted
-    w = v.next ch
+    w = asks.wanted
 
     -- A TRIAL
     module _ (i : ℕ) (is : is_of c m i ≡ true) (r : Choices) (is-chosen : r.chosen ≡ ch) (es : List Entry) where
@@ -205,21 +205,25 @@ module _ (c : Catalogue) (few : c.modules ≤ 32) (v : Moves) (follows : Follows
       s : Selection
       s = chosen_of c ch
 
-      w : Wanted
-      w = v.next ch
-
       Result : Option Selection → List Entry → Walked → Type 0
       Result x ls u = Ends ch (notes (es ++ ls)) x u
 
-      begun : (places : List ℕ) → Walked
-      begun is = each_walk v a (walk_in f v a) w (number_in (notes es)) is (choices ch w) (note_in a (entry_bytes (cites w.need)) (notes es))
+      now : Choices
+      now = choices ch (v.next ch)
+
+      begun : Wanted → (places : List ℕ) → Walked
+      begun w is = each_walk v a (walk_in f v a) w (number_in (notes es)) is now (note_in a (entry_bytes (cites w.need)) (notes es))
+
+      -- by what is wanted
+      walk_of : Code.Option Wanted → Walked
+      walk_of n = if_wanted n (walked true now (notes es)) (λ w. begun w (v.tries w.owner.0))
 
       done : next_modules c s ≡ [] →
           Result (search_from (suc f) c (newest_first c) s).found (search_lines (suc f) c (newest_first c) s (length es)) (walk_in (suc f) v a r (notes es))
       done e =
           subst (λ (x : Searched). Result x.found (search_lines (suc f) c (newest_first c) s (length es)) (walk_in (suc f) v a r (notes es)))
           (sym (search_done f c (newest_first c) s e))
-          (subst (Ends ch (notes es) (some s)) (sym (cond_true _ (begun (v.tries w.owner.0)) (eq-eqb _ no_module (follows.done ch placed e)))) (refl, refl))
+          (subst (Ends ch (notes es) (some s)) (sym (ap walk_of (follows.done ch placed e))) (refl, refl))
 
       place : (m : ℕ) (ms : List ℕ) → next_modules c s ≡ m ∷ ms →
           Goes (walk_in f v a) (search_from f c (newest_first c)) (search_lines f c (newest_first c)) →
@@ -229,13 +233,16 @@ module _ (c : Catalogue) (few : c.modules ≤ 32) (v : Moves) (follows : Follows
           (sym (search_next f c (newest_first c) s m ms e))
           (subst (λ (ls : List Entry). Result found ls (walk_in (suc f) v a r (notes es))) (sym lines_are)
           (subst (Result found (cites w.need ∷ rest)) (sym walk_is)
-          (subst (λ (ls : List Entry). Ends ch (notes ls) found (begun (newest_first c m))) (append_assoc es (cites w.need ∷ []) rest) ends)))
+          (subst (λ (ls : List Entry). Ends ch (notes ls) found (begun w (newest_first c m))) (append_assoc es (cites w.need ∷ []) rest) ends)))
         where
           first : m < c.modules
           first = (next_first c s m ms e).fits
 
           asks : Asks v c ch m
           asks = follows.next ch placed m ms e
+
+          w : Wanted
+          w = asks.wanted
 
           found : Option Selection
           found = (try_each c (search_from f c (newest_first c)) s m (newest_first c m)).found
@@ -247,10 +254,8 @@ module _ (c : Catalogue) (few : c.modules ≤ 32) (v : Moves) (follows : Follows
           lines_are =
               lines_next f c (newest_first c) s (length es) m ms e ∙ ap (λ (o : Option ℕ). cites (get_or o 0) ∷ rest) asks.need
 
-          walk_is : walk_in (suc f) v a r (notes es) ≡ begun (newest_first c m)
-          walk_is =
-              cond_false _ _ (ne_eqb w.owner.0 no_module (λ q. omega (arith, first, asks.owner))) ∙
-              ap begun (ap v.tries asks.owner ∙ follows.tries m)
+          walk_is : walk_in (suc f) v a r (notes es) ≡ begun w (newest_first c m)
+          walk_is = ap walk_of asks.is_next ∙ ap (begun w) (ap v.tries asks.owner ∙ follows.tries m)
 
           asked : List Entry
           asked = es ++ (cites w.need ∷ [])
@@ -262,9 +267,9 @@ module _ (c : Catalogue) (few : c.modules ≤ 32) (v : Moves) (follows : Follows
               (subst (λ (x : Sheet). x.noted.over ≡ false) (notes_append a start es (cites w.need ∷ [])) o) in
               omega (arith, fresh, exact a start es before)
 
-          ends : Ends ch (notes (asked ++ rest)) found (begun (newest_first c m))
+          ends : Ends ch (notes (asked ++ rest)) found (begun w (newest_first c m))
           ends =
               each_law (walk_in f v a) (search_from f c (newest_first c)) (search_lines f c (newest_first c)) goes ch placed m first
               (next_first c s m ms e).unset asks (newest_first c m) (λ i q. (keep_mem (is_of c m) i (down_from (length c.versions)) q).1)
-              (choices ch w) refl asked _ (sym (notes_last a start es (cites w.need))) (number_in (notes es)) (length es) number
+              now refl asked _ (sym (notes_last a start es (cites w.need))) (number_in (notes es)) (length es) number
               (suc (length es)) (omega (arith, length-append es (cites w.need ∷ [])))

@@ -9,7 +9,8 @@ use Rattle.rules.specs.Lists.{keep, up_from, below, down_from}
 use Rattle.rules.specs.Catalogue.{Catalogue, is_of}
 use Rattle.rules.specs.Search.{newest_first}
 use Rattle.rules.proofs.Lists.{up_from_last}
-use Rattle.store.specs.Tables.{Tables, Holds}
+use Rattle.store.specs.declared.tables.Tables.{Tables}
+use Rattle.store.specs.Tables.{Holds}
 use Rattle.search.specs.Choosing.{falling}
 
 -- a list from its end

@@ -18,13 +18,13 @@ use Rattle.rules.specs.Search.{newest_first, search_from, best}
 use Rattle.rules.specs.Sheet.{Entry, cites, resolves, entry_fits, entries_fit, entry_text, is_refuting, refutes, last_line, most_lines, sheet_of, search_lines}
 use Rattle.rules.proofs.Lists.{and_fst, and_snd}
 use Rattle.rules.proofs.Theorems.{sheets_tell}
-use Rattle.store.specs.Tables.{Tables, Holds}
-use Rattle.moves.specs.Scan.{no_number}
-use Rattle.moves.specs.Noting.{Sheet, sheet, noted, entry_bytes}
-use Rattle.search.specs.Walking.{Moves, Walked, started, search_in}
+use Rattle.store.specs.declared.tables.Tables.{Tables}
+use Rattle.store.specs.Tables.{Holds}
+use Rattle.moves.specs.Noting.{Sheet, sheet, noted, fresh, entry_bytes}
+use Rattle.search.specs.Walking.{Moves, moves_in, Walked, started, search_in}
 use Rattle.moves.proofs.NotedLines.{notes_in, lines_text, too_many, all_noted}
 use Rattle.moves.proofs.Chosen.{chosen_of}
-use Rattle.search.proofs.Follows.{Follows, moves_of, tables_follow}
+use Rattle.search.proofs.Follows.{Follows, tables_follow}
 use Rattle.search.proofs.Ends.{Ends, walk_law}
 use Rattle.search.proofs.Start.{best_found, start_in, start_root, start_chosen}
 
@@ -55,44 +55,40 @@ module _ (c : Catalogue) (k : Carried c) where
       ap₂ (λ (x y : List ℕ). x ++ y) (entry_noted i e (omega arith) (and_fst (entry_fits c i e) _ f))
       (lines_noted (suc i) es (omega arith) (and_snd (entry_fits c i e) _ f))
 
-module _ (t : Tables) (c : Catalogue) (holds : Holds t c) (w : WellFormed c) (few : c.modules ≤ 32) (numbers : length c.needs ≤ no_number)
-    (a : ℕ) (area : List ℕ) where
+module _ (t : Tables) (c : Catalogue) (holds : Holds t c) (w : WellFormed c) (few : c.modules ≤ 32) (a : ℕ) (area : List ℕ) where
   abbrev moves : Moves
-  moves = moves_of t c.modules
+  moves = moves_in t c.modules
 
   abbrev pub ended : Walked
-  ended = search_in moves c.modules a (get_or t.firsts 0 0) area
-
-  abbrev fresh : Sheet
-  fresh = sheet area (noted 0 0 false)
+  ended = search_in moves c.modules a (get_or t.firsts 0 0) (fresh area)
 
   abbrev lines : List Entry
   lines = sheet_of c (newest_first c)
 
   follows : Follows moves c
-  follows = tables_follow t c holds w few numbers
+  follows = tables_follow t c holds w few
 
   -- how it ends, by what the rules' search finds
   abbrev EndsWith : Option Selection → Type 0
-  EndsWith x = Ends c few moves follows a fresh refl (start_in t) (notes_in a fresh lines) x ended
+  EndsWith x = Ends c few moves follows a (fresh area) refl (start_in t) (notes_in a (fresh area) lines) x ended
 
   whole : EndsWith (best c)
   unfolding notes_in
   whole =
       subst EndsWith (sym (best_found c))
-      (subst (λ (s : Selection). Ends c few moves follows a fresh refl (start_in t) (notes_in a fresh (search_lines c.modules c (newest_first c) s 0))
-      (search_from c.modules c (newest_first c) s).found ended) (start_root t c holds w few)
-      (walk_law c few moves follows a fresh refl c.modules (started (get_or t.firsts 0 0)) (start_chosen t c holds w few) []))
+      (subst (λ (s : Selection). Ends c few moves follows a (fresh area) refl (start_in t)
+      (notes_in a (fresh area) (search_lines c.modules c (newest_first c) s 0)) (search_from c.modules c (newest_first c) s).found ended) (start_root t c holds w few)
+      (walk_law c few moves follows a (fresh area) refl c.modules (started (get_or t.firsts 0 0)) (start_chosen t c holds w few) []))
 
   pub search_finds : (s : Selection) → best c ≡ some s → (ended.found ≡ true) × (chosen_of c ended.choices.chosen ≡ s)
   search_finds s e = subst EndsWith e whole
 
-  pub search_fails : best c ≡ none → (ended.found ≡ false) × (ended.sheet ≡ notes_in a fresh lines)
+  pub search_fails : best c ≡ none → (ended.found ≡ false) × (ended.sheet ≡ notes_in a (fresh area) lines)
   search_fails e = let h = subst EndsWith e whole in (h.0, h.1.1)
 
   -- more lines than the allowance are told
   pub search_over : best c ≡ none → a < length lines → ended.sheet.noted.over ≡ true
-  search_over e l = ap (λ (s : Sheet). s.noted.over) (search_fails e).1 ∙ too_many a fresh lines (omega arith) (omega arith)
+  search_over e l = ap (λ (s : Sheet). s.noted.over) (search_fails e).1 ∙ too_many a (fresh area) lines (omega arith) (omega arith)
 
   -- else their text stands in the area
   pub search_sheet : Carried c → best c ≡ none → length lines ≤ a → a ≤ most_lines → 15 * most_lines ≤ length area →
@@ -101,7 +97,7 @@ module _ (t : Tables) (c : Catalogue) (holds : Holds t c) (w : WellFormed c) (fe
   search_sheet k e l most room =
       let count : 0 + length lines ≡ length lines = omega arith in
       let size : 0 + length (lines_text lines) ≡ length (lines_text lines) = omega arith in
-      (search_fails e).1 ∙ all_noted a fresh lines (record { before = refl; allowed = omega arith; fits = omega arith }) ∙
+      (search_fails e).1 ∙ all_noted a (fresh area) lines (record { before = refl; allowed = omega arith; fits = omega arith }) ∙
       ap₂ (λ (x y : ℕ). sheet (sets area 0 (lines_text lines)) (noted x y false)) count size ∙
       ap (λ (x : List ℕ). sheet (sets area 0 x) (noted (length lines) (length x) false)) (lines_noted c k 0 lines (omega arith) fit)
     where

@@ -11,7 +11,8 @@ use Rattle.rules.specs.Catalogue.{Catalogue, WellFormed, places_of}
 use Rattle.rules.specs.Selection.{Selection, chosen_at, root_only}
 use Rattle.rules.specs.Search.{newest_first, search_from, search, best}
 use Rattle.rules.proofs.Partials.{root_fits_lem, root_partial}
-use Rattle.store.specs.Tables.{Tables, Holds}
+use Rattle.store.specs.declared.tables.Tables.{Tables}
+use Rattle.store.specs.Tables.{Holds}
 use Rattle.moves.proofs.Chosen.{chosen_of, Chosen}
 
 -- the best selection is what the search from the root finds

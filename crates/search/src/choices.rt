@@ -1,27 +1,29 @@
 // The record of choices: for each module 0, or one more than the place of the version that is chosen; and the module to choose next.
 ghost use Rattle.std.specs.Prelude.{◌≡◌, suc, ◌<◌, replicate, set};
 ghost use Rattle.search.specs.Choosing.{choices};
-ghost use Rattle.moves.specs.Wanted.{none_wanted, wanted_in};
+ghost use Rattle.moves.specs.Wanted.{wanted_in};
 
+use frames::access::put;
 use frames::numbers::{ModuleNo, Place};
 use moves::wanted;
 use moves::wanted::Wanted;
-use store::limits::{MODULES, NEEDS, VERSIONS};
+use store::limits::MODULES;
+use store::tables::Tables;
 
 #[derive(Drop)]
 pub struct Choices {
     pub chosen: [u16; MODULES as usize],
-    pub next: Wanted,
+    pub next: Option<Wanted>,
 }
 
 impl Choices {
     // Nothing is chosen, and nothing is known of what is next.
     pub fn none() -> Choices
-        ensures { result ≡ choices (replicate 32 0) none_wanted }
+        ensures { result ≡ choices (replicate 32 0) None }
     {
         Choices {
-            chosen: [0u16; MODULES as usize],
-            next: wanted::nothing(),
+            chosen: [0; MODULES as usize],
+            next: None,
         }
     }
 
@@ -30,41 +32,24 @@ impl Choices {
         requires { p.0 < 65535 }
         ensures { result ≡ choices (set self.chosen m.0 (suc p.0)) self.next }
     {
-        let at = m.0 as usize;
-        if at < MODULES as usize {
-            self.chosen[at] = p.0 + 1;
-        }
+        put(&mut self.chosen, m.0 as usize, p.0 + 1);
         self
     }
 
     // The choice of a wanted module is taken back: it is next again.
     pub fn take_back(mut self, w: Wanted) -> Choices
-        ensures { result ≡ choices (set self.chosen w.owner.0 0) w }
+        ensures { result ≡ choices (set self.chosen w.owner.0 0) (Some w) }
     {
-        self.next = w;
-        let m = w.owner;
-        let at = m.0 as usize;
-        if at < MODULES as usize {
-            self.chosen[at] = 0;
-        }
+        self.next = Some(w);
+        put(&mut self.chosen, w.owner.0 as usize, 0);
         self
     }
 
-    // The module to choose next is found, with the need that asks for it and the range that is left to it.
-    pub fn next_module<'a>(
-        mut self,
-        starts: &'a [u16; VERSIONS as usize],
-        marks: &'a [u16; VERSIONS as usize],
-        targets: &'a [u16; NEEDS as usize],
-        lows: &'a [u32; NEEDS as usize],
-        highs: &'a [u32; NEEDS as usize],
-        modules: u16,
-    ) -> Choices
-        ensures { result ≡ choices self.chosen
-            (wanted_in starts.now marks.now targets.now lows.now highs.now self.chosen modules) }
+    // The module to choose next is found, with the need that asks for it and the range that is left to it; or that none is wanted.
+    pub fn next_module(mut self, t: &Tables, modules: u16) -> Choices
+        ensures { result ≡ choices self.chosen (wanted_in t.now self.chosen modules) }
     {
-        let w = wanted::next_of(starts, marks, targets, lows, highs, &self.chosen, modules);
-        self.next = w;
+        self.next = wanted::next_of(t, &self.chosen, modules);
         self
     }
 }
