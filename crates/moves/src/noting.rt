@@ -3,7 +3,7 @@ ghost use Rattle.std.specs.Prelude.{◌≡◌, ◌-◌, ◌≤◌, length};
 ghost use Rattle.rules.specs.Sheet.{cites, resolves};
 ghost use Rattle.moves.specs.Noting.{sheet_of, fresh, note_in, entry_bytes};
 
-use frames::kinds::{NEED_LINE, RESOLVED};
+use frames::kinds::Kind;
 use frames::numbers::ModuleNo;
 use frames::written;
 
@@ -72,7 +72,7 @@ impl<'a> Sheet<'a> {
         ensures allowance { self.new.allowance ≡ self.old.allowance }
         ensures sheet { sheet_of self.new ≡ note_in self.old.allowance (entry_bytes (cites k)) (sheet_of self.old) }
     {
-        let bytes = [NEED_LINE, (k / 256 % 256) as u8, (k % 256) as u8];
+        let bytes = [Kind::NeedLine as u8, (k / 256 % 256) as u8, (k % 256) as u8];
         self.note(&bytes);
     }
 
@@ -83,7 +83,7 @@ impl<'a> Sheet<'a> {
         ensures sheet { sheet_of self.new ≡ note_in self.old.allowance (entry_bytes (resolves a b m.0)) (sheet_of self.old) }
     {
         let bytes = [
-            RESOLVED,
+            Kind::Resolved as u8,
             (a / 256 % 256) as u8,
             (a % 256) as u8,
             (b / 256 % 256) as u8,
