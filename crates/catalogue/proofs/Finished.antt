@@ -19,7 +19,7 @@ pub begun : StandsFor nothing_read start
 begun = record { state = refl; reads = reads_start }
 
 pub read_owed : {t : List ℕ} {c : Catalogue} {x : Fault} → TextRead reader StandsFor limits.bytes start t c x → CatalogueRead t c x
-read_owed r = record { fault_is = r.fault_is; state = r.reached.state; tables = r.reached.reads.tidy.holds }
+read_owed r = record { fault_is = r.fault_is; state = r.reached.state; tables = r.reached.reads.tidy.holds; few = r.reached.reads.tidy.versions_fit }
 
 -- a run ends in the state that is reached
 run_reached : {r : Reader Reading} {s u : Reading} {ls : List Line} → Run r s ls u → reached_from r s ls ≡ u

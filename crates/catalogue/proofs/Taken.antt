@@ -2,16 +2,12 @@
 -- tables after it are those of the rules' reading (`fault_same`, `state_same`, `reads_same`), so that what is owed of it holds (`refused`, `taken`). Assumes nothing.
 use mathlib.Core.Path.{◌≡◌, refl, sym, ◌∙◌, ap}
 use mathlib.Core.Logic.{◌≢◌}
-use mathlib.Core.Bool.{Bool, true, false, ◌&&◌, cond}
-use mathlib.Core.List.{List, [], ◌∷◌}
+use mathlib.Core.List.{List}
 use Prim.Native.Nat.{ℕ}
-use lib.Dec.{eqb}
 use lib.ListN.{length, get_or}
-use borrow.Author.Tests.{eqb-true}
 use Rattle.rules.specs.Frames as Rules
 use Rattle.rules.specs.Frames.{byte_at, kinds, row_in, catalogues}
 use Rattle.rules.specs.Catalogue.{Reading, places_of, limits}
-use Rattle.rules.proofs.Lists.{and_snd}
 use Rattle.frames.specs.Kinds.{row_for}
 use Rattle.frames.specs.Texts.{Kept, FrameTaken}
 use Rattle.frames.proofs.Judged.{row_kind}

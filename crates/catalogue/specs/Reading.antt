@@ -1,5 +1,5 @@
 -- A catalogue's text read into tables: what is known after the lines so far, and what is owed of the whole text. Assumes nothing: these are definitions.
-use Rattle.std.specs.Prelude.{◌≡◌, cond, List, ℕ, ltb, length}
+use Rattle.std.specs.Prelude.{◌≡◌, ◌≤◌, cond, List, ℕ, ltb, length}
 use Rattle.rules.specs.Lines.{Fault, lines_of}
 use Rattle.rules.specs.Frames.{Reader}
 use Rattle.rules.specs.Catalogue.{Reading, reading, no_catalogue, limits, catalogue_reader, text_fault}
@@ -29,8 +29,9 @@ nothing_read = record { state = record { stands = BeforeHead; modules = 0; versi
 abbrev pub reached_in : (text : List ℕ) → Reading
 reached_in t = cond (ltb limits.bytes (length t)) start (reached_from reader start (lines_of t))
 
--- what is owed of a text: the fault told of its reading is the rules', and the tables hold what was read before it
+-- what is owed of a text: the fault told of its reading is the rules', and the tables hold what was read before it, with no more versions than they have room for
 pub record CatalogueRead (t : List ℕ) (c : Catalogue) (x : Fault) : Type 0 where
   pub fault_is : x ≡ text_fault limits t
   pub state : state_told c.state ≡ state_of (reached_in t)
   pub tables : Holds c.tables (reached_in t).sofar
+  pub few : length (reached_in t).sofar.versions ≤ 512

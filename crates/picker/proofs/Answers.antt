@@ -8,7 +8,7 @@ use mathlib.Core.Option.{Option, none}
 use Prim.Native.Nat.{ℕ, ◌+◌, ◌*◌, ◌≤◌}
 use native.Mathlib.Omega.{arith}
 use lib.Dec.{leb}
-use lib.ListN.{length, take, replicate}
+use lib.ListN.{length, take, replicate, get_or, length-take}
 use lib.Seq.{sets}
 use borrow.Author.Tests.{leb-true, eqb-true}
 use Rattle.rules.specs.Lines.{Fault, fault, fine}
@@ -18,11 +18,12 @@ use Rattle.rules.specs.Search.{best, trials_of}
 use Rattle.rules.specs.Sheet.{most_lines, sheet_text}
 use Rattle.rules.proofs.Lists.{and_fst, and_snd, not_both}
 use Rattle.rules.proofs.Theorems.{sheets_tell}
-use Rattle.frames.specs.declared.faults.Fault as Told
-use Rattle.catalogue.specs.declared.reading.Lines.{Lines}
-use Rattle.catalogue.specs.Reading.{tables_of, told_of, CatalogueRead}
-use Rattle.search.specs.declared.walk.Found.{Found}
-use Rattle.search.specs.Walking.{told}
+use Rattle.std.specs.declared.result.Result.TheVariants.{Ok, Err}
+use Rattle.catalogue.specs.declared.reading.Catalogue as Code
+use Rattle.catalogue.specs.Reading.{CatalogueRead}
+use Rattle.moves.specs.Noting.{Sheet, fresh}
+use Rattle.search.specs.declared.choices.Choices.{Choices}
+use Rattle.search.specs.Walking.{moves_in, Walked, told, search_in}
 use Rattle.selection.specs.Written.{text_in}
 use Rattle.selection.proofs.Whole.{settled_few, text_length}
 use Rattle.selection.proofs.Selected.{text_is_the_rules}
@@ -33,7 +34,7 @@ use Rattle.picker.specs.Inside.{HasRoom, search_of}
 use Rattle.picker.specs.Written.{sheet_in}
 use Rattle.picker.proofs.Stored.{stored_over}
 use Rattle.picker.proofs.Sheets.{sheet_length, sheet_is_the_rules, lines_short}
-use Rattle.picker.proofs.Readings.{ReadWell, told_is, read_fine, read_well}
+use Rattle.picker.proofs.Readings.{ReadWell, read_fine, read_well}
 use Rattle.picker.proofs.Outcomes.{sheet_lines, SheetLeft, found_best, found_none, over_small, sheet_left}
 
 -- FITTING AREAS have room
@@ -48,34 +49,31 @@ has_room s h w a e =
     }
 
 -- A REFUSED TEXT: its number and line, and nothing is written
-pub refused : {text s h : List ℕ} {a : ℕ} {l : Lines} {x : Told.Fault} {r : Picked} → CatalogueRead text l → x ≡ told_of l → x.number ≢ 0 →
-    r ≡ picked (fault x.number x.line) 0 → ReadOwes text s h a r s h
-refused {text} {l = l} read is-fault bad e =
-    let same = told_is text l read is-fault in
+pub refused : {text s h : List ℕ} {a : ℕ} {l : Code.Catalogue} {x : Fault} {r : Picked} → CatalogueRead text l x → x.number ≢ 0 → r ≡ picked x 0 →
+    ReadOwes text s h a r s h
+refused read bad e =
     record {
-      refused = λ q. (e ∙ ap (λ (y : Fault). picked y 0) same, refl, refl);
-      read = λ q. absurd (bad (ap (λ (y : Fault). y.number) same ∙ eqb-true _ 0 q));
+      refused = λ q. (e ∙ ap (λ (y : Fault). picked y 0) read.fault_is, refl, refl);
+      read = λ q. absurd (bad (ap (λ (y : Fault). y.number) read.fault_is ∙ eqb-true _ 0 q));
     }
 
 -- READ: what is known of a pick whose text reads well
-pub record Known (text selection sheet work : List ℕ) (allowance : ℕ) (l : Lines) : Type 0 where
+pub record Known (text selection sheet work : List ℕ) (allowance : ℕ) (l : Code.Catalogue) : Type 0 where
   pub room : HasRoom selection sheet work allowance
   pub fine_text : text_fault limits text ≡ fine
   pub well : ReadWell l (catalogue_of limits text)
 
-pub known : {text s h w : List ℕ} {a : ℕ} {l : Lines} {x : Told.Fault} → HasRoom s h w a → CatalogueRead text l → x ≡ told_of l → x.number ≡ 0 →
-    Known text s h w a l
-known {text} {l = l} room read is-fault good =
-    record { room = room; fine_text = read_fine text l read is-fault good; well = read_well text l read is-fault good }
+pub known : {text s h w : List ℕ} {a : ℕ} {l : Code.Catalogue} → HasRoom s h w a → CatalogueRead text l fine → Known text s h w a l
+known {text} {l = l} room read = record { room = room; fine_text = read_fine text l read; well = read_well text l read }
 
 -- THE TEXTS as they are written: of a selection, from the tables and the choices, and of a sheet, from what is noted
-abbrev pub text_of : Lines → (chosen : List ℕ) → List ℕ
-text_of l chosen = text_in l.values chosen l.state.modules
+abbrev pub text_of : Code.Catalogue → (chosen : List ℕ) → List ℕ
+text_of l chosen = text_in l.tables.values chosen l.state.modules
 
-abbrev pub sheet_from : Found → (area : List ℕ) → List ℕ
-sheet_from f area = sheet_in (take f.noted.end area) f.noted.lines
+abbrev pub sheet_from : Sheet → List ℕ
+sheet_from s = sheet_in (take s.noted.end s.area) s.noted.lines
 
-module _ {text s h w : List ℕ} {a : ℕ} {l : Lines} (k : Known text s h w a l) where
+module _ {text s h w : List ℕ} {a : ℕ} {l : Code.Catalogue} (k : Known text s h w a l) where
   abbrev c : Catalogue
   c = catalogue_of limits text
 
@@ -89,31 +87,35 @@ module _ {text s h w : List ℕ} {a : ℕ} {l : Lines} (k : Known text s h w a l
   pub text_fits : (chosen : List ℕ) → length (text_of l chosen) ≤ selection_least
   text_fits chosen =
       let few = settled_few chosen l.state.modules in
-      let long = text_length l.values chosen l.state.modules in
+      let long = text_length l.tables.values chosen l.state.modules in
       omega (arith, few_modules)
 
-  module _ {f : Found} (is-told : f ≡ told (search_of (tables_of l) l.state.modules a w)) where
+  -- THE SEARCH, called with a sheet that has no line yet
+  module _ {b : ℕ} {begun : Sheet} (empty : begun ≡ fresh w) (allowed : b ≡ a) where
+    abbrev made : Walked
+    made = search_in (moves_in l.tables l.state.modules) l.state.modules b (get_or l.tables.firsts 0 0) begun
+
+    same : made ≡ search_of l.tables l.state.modules a w
+    same = rw (empty, allowed)
+
     -- A SELECTION is written
-    pub selected : {r : Picked} {u : List ℕ} {size : ℕ} → f.found ≡ true → size ≡ length (text_of l f.choices.chosen) →
-        u ≡ sets s 0 (text_of l f.choices.chosen) → r ≡ picked fine size → ReadOwes text s h a r u h
-    selected {r} {u} found n e p =
-        outcome_read (subst (λ (o : Option Selection). OutcomeOwes c o s h a r u h) (sym (found_best k.well a w is-told found)) (
+    pub selected : {f : Choices} → Ok f ≡ told made → {r : Picked} {u : List ℕ} {size : ℕ} → size ≡ length (text_of l f.chosen) →
+        u ≡ sets s 0 (text_of l f.chosen) → r ≡ picked fine size → ReadOwes text s h a r u h
+    selected {f} found {r} {u} n e p =
+        outcome_read (subst (λ (o : Option Selection). OutcomeOwes c o s h a r u h) (sym (found_best k.well a w (found ∙ ap (λ (x : Walked). told x) same))) (
           p ∙ ap (picked fine) (n ∙ ap length rules_text),
-          e ∙ stored_over (text_of l chosen) s (omega (arith, text_fits chosen, k.room.selection_room)) ∙ ap (λ (t : List ℕ). over t s) rules_text,
+          e ∙ stored_over (text_of l f.chosen) s (omega (arith, text_fits f.chosen, k.room.selection_room)) ∙ ap (λ (t : List ℕ). over t s) rules_text,
           refl,
         ))
       where
-        chosen : List ℕ
-        chosen = f.choices.chosen
-
-        rules_text : text_of l chosen ≡ selection_text c (take c.modules chosen)
+        rules_text : text_of l f.chosen ≡ selection_text c (take c.modules f.chosen)
         rules_text =
-            ap (text_in l.values chosen) k.well.modules ∙
-            text_is_the_rules (tables_of l) c k.well.holds k.well.carried chosen
+            ap (text_in l.tables.values f.chosen) k.well.modules ∙
+            text_is_the_rules l.tables c k.well.holds k.well.carried f.chosen
 
-    module _ (not_found : f.found ≡ false) where
+    module _ {f : Choices} (not_found : Err f ≡ told made) {z : Sheet} (is-sheet : z ≡ made.sheet) where
       none_best : best c ≡ none
-      none_best = found_none k.well a w is-told not_found
+      none_best = found_none k.well a w (not_found ∙ ap (λ (x : Walked). told x) same)
 
       -- the sheet's lines are 2W + 1
       count_lines : length (sheet_lines c) ≡ 2 * trials_of c + 1
@@ -123,13 +125,13 @@ module _ {text s h w : List ℕ} {a : ℕ} {l : Lines} (k : Known text s h w a l
       of_sheet {r} {v} o = outcome_read (subst (λ (x : Option Selection). OutcomeOwes c x s h a r s v) (sym none_best) (o, refl))
 
       -- NO SHEET: its lines are more than the allowance
-      pub unsheeted : {r : Picked} → f.noted.over ≡ true → r ≡ picked (fault 10 0) 0 → ReadOwes text s h a r s h
+      pub unsheeted : {r : Picked} → z.noted.over ≡ true → r ≡ picked (fault 10 0) 0 → ReadOwes text s h a r s h
       unsheeted {r} is-over p =
           of_sheet record {
             either = inr is_ten;
             line_none = ap (λ (x : Picked). x.line) p;
             unwritten = λ q. (ap (λ (x : Picked). x.size) p, refl);
-            too_small = λ q. omega (arith, count_lines, over_small k.well a w is-told none_best k.room.few_lines k.room.work_room is-over);
+            too_small = λ q. omega (arith, count_lines, over_small k.well a w none_best k.room.few_lines k.room.work_room (is-sheet ∙ ap (λ (x : Walked). x.sheet) same) is-over);
             none_allowed = λ q. is_ten;
             written = λ q. absurd (omega (arith, q, is_ten));
           }
@@ -138,23 +140,29 @@ module _ {text s h w : List ℕ} {a : ℕ} {l : Lines} (k : Known text s h w a l
           is_ten = ap (λ (x : Picked). x.number) p
 
       -- A SHEET is written
-      module _ {area : List ℕ} (is-area : area ≡ (search_of (tables_of l) l.state.modules a w).sheet.area) (has_all : f.noted.over ≡ false) where
-        left : SheetLeft c a f area
-        left = sheet_left k.well a w is-told none_best k.room.few_lines k.room.work_room is-area has_all
+      module _ (has_all : z.noted.over ≡ false) where
+        left : SheetLeft c a z
+        left = sheet_left k.well a w none_best k.room.few_lines k.room.work_room (is-sheet ∙ ap (λ (x : Walked). x.sheet) same) has_all
 
-        -- its lines' text, and with head and end its whole text, has room in the areas
-        pub lines_fit : f.noted.end ≤ 7200
+        -- its lines' text stands in the work area
+        pub lines_there : z.noted.end ≤ length z.area
+        lines_there =
+            let long = length-take z.noted.end z.area in
+            let text = ap length left.text in
+            omega (arith, long, text, left.ends)
+
+        -- and with head and end its whole text has room in the areas
+        pub lines_fit : z.noted.end ≤ 7200
         lines_fit = omega (arith, left.ends, left.within, lines_short (sheet_lines c), k.room.few_lines)
 
-        pub sheet_fits : length (sheet_from f area) ≤ sheet_least
-        sheet_fits =
-            rw (sheet_length (take f.noted.end area) f.noted.lines, left.text) (omega (arith, lines_fit, left.ends))
+        pub sheet_fits : length (sheet_from z) ≤ sheet_least
+        sheet_fits = rw (sheet_length (take z.noted.end z.area) z.noted.lines, left.text) (omega (arith, lines_fit, left.ends))
 
-        rules_sheet : sheet_from f area ≡ sheet_text (sheet_lines c)
+        rules_sheet : sheet_from z ≡ sheet_text (sheet_lines c)
         rules_sheet = ap₂ sheet_in left.text left.count ∙ sheet_is_the_rules (sheet_lines c) (omega (arith, left.within, k.room.few_lines))
 
-        pub sheeted : {r : Picked} {v : List ℕ} {size : ℕ} → size ≡ length (sheet_from f area) → v ≡ sets h 0 (sheet_from f area) →
-            r ≡ picked (fault 9 0) size → ReadOwes text s h a r s v
+        pub sheeted : {r : Picked} {v : List ℕ} {size : ℕ} → size ≡ length (sheet_from z) → v ≡ sets h 0 (sheet_from z) → r ≡ picked (fault 9 0) size →
+            ReadOwes text s h a r s v
         sheeted {r} {v} {size} n e p =
             of_sheet record {
               either = inl is_nine;
@@ -176,7 +184,7 @@ module _ {text s h w : List ℕ} {a : ℕ} {l : Lines} (k : Known text s h w a l
                   within = left.within;
                   size = ap (λ (x : Picked). x.size) p ∙ n ∙ ap length rules_sheet;
                   text =
-                      e ∙ stored_over (sheet_from f area) h (omega (arith, sheet_fits, k.room.sheet_room)) ∙
+                      e ∙ stored_over (sheet_from z) h (omega (arith, sheet_fits, k.room.sheet_room)) ∙
                       ap (λ (t : List ℕ). over t h) rules_sheet;
                 }
 

@@ -1,62 +1,63 @@
 -- Each way out of a check is what it owes: a catalogue that is refused (`text_told`), a sheet that is judged (`sheet_told`), and a work area that is too
 -- short or long enough (`short_told`, `long_told`). Assumes nothing.
-use mathlib.Core.Path.{◌≡◌, sym, ◌∙◌, ap}
+use mathlib.Core.Path.{◌≡◌, sym, ◌∙◌, ap, subst₂}
 use mathlib.Core.Logic.{◌≢◌}
 use mathlib.Core.List.{List}
 use Prim.Native.Nat.{ℕ, ◌≤◌, ◌<◌}
 use native.Mathlib.Omega.{arith}
 use lib.ListN.{length}
-use borrow.Author.Tests.{le-leb, lt-leb, eq-eqb, ne_eqb}
-use Rattle.rules.specs.Lines.{Fault, fault}
+use borrow.Author.Tests.{le-leb, lt-leb, ne_eqb}
+use Rattle.rules.specs.Lines.{Fault, fault, fine}
 use Rattle.rules.specs.Frames.{catalogues, sheets}
 use Rattle.rules.specs.Catalogue.{Catalogue, limits, text_fault, catalogue_of}
 use Rattle.rules.proofs.Lists.{cond_true, cond_false}
-use Rattle.frames.specs.declared.faults.Fault as Told
-use Rattle.catalogue.specs.declared.reading.Lines.{Lines}
-use Rattle.catalogue.specs.Reading.{tables_of, told_of, CatalogueRead}
-use Rattle.sheets.specs.Reading.{lent_by, Given, SheetJudged}
+use Rattle.store.specs.Lent.{Lent, lent_by}
+use Rattle.catalogue.specs.declared.reading.Catalogue as Code
+use Rattle.catalogue.specs.Reading.{CatalogueRead}
+use Rattle.sheets.specs.Reading.{Given, SheetJudged}
 use Rattle.sheets.proofs.Judging.{read_given}
-use Rattle.picker.specs.Entry.{work_least, zeroed}
+use Rattle.picker.specs.Entry.{work_least, zeroed, is_fine}
 use Rattle.picker.specs.Checking.{checked, checked_by, check_on, check_of, work_after}
 use Rattle.picker.specs.declared.Checked.{Checked}
-use Rattle.picker.proofs.Readings.{ReadWell, told_is, read_fine, read_well}
+use Rattle.picker.proofs.Readings.{ReadWell, read_fine, read_well}
 
--- ONCE THE WORK AREA FITS: the fault that is told of the reading of the catalogue's text decides
-module _ (text sheet : List ℕ) (l : Lines) (read : CatalogueRead text l) {x : Told.Fault} (is-fault : x ≡ told_of l) where
+-- ONCE THE WORK AREA FITS: a catalogue that is refused
+pub text_told : {text : List ℕ} (sheet : List ℕ) {l : Code.Catalogue} {x : Fault} {r : Checked} → CatalogueRead text l x → x.number ≢ 0 →
+    r ≡ checked_by catalogues x → r ≡ check_on text sheet
+text_told {text} sheet read n e =
+    e ∙ ap (checked_by catalogues) read.fault_is ∙
+    sym (cond_false _ _ (ne_eqb (text_fault limits text).number 0 (λ z. n (ap (λ (y : Fault). y.number) read.fault_is ∙ z))))
+
+-- and one that is read, with what is told of the sheet
+module _ {text : List ℕ} {l : Code.Catalogue} (read : CatalogueRead text l fine) where
   abbrev c : Catalogue
   c = catalogue_of limits text
 
-  -- the number told is the text's
-  same_number : x.number ≡ (text_fault limits text).number
-  same_number = ap (λ (y : Fault). y.number) (told_is text l read is-fault)
+  well : ReadWell l c
+  well = read_well text l read
 
-  pub text_told : {r : Checked} → x.number ≢ 0 → r ≡ checked_by catalogues (fault x.number x.line) → r ≡ check_on text sheet
-  text_told n e =
-      e ∙ ap (checked_by catalogues) (told_is text l read is-fault) ∙
-      sym (cond_false _ _ (ne_eqb (text_fault limits text).number 0 (λ z. n (same_number ∙ z))))
+  -- the catalogue that the tables hold is the one that a sheet is judged over
+  given : (size : ℕ) → work_least ≤ size → Given l.tables c (lent_by l.tables l.state.modules) l.state.needs size
+  given size room =
+      let g = read_given text l.tables size (read_fine text l read) well.holds (omega arith) in
+      record {
+        lent_is = ap (lent_by l.tables) well.modules;
+        needs_are = well.needs;
+        room = g.room;
+        holds = g.holds;
+        well_formed = g.well_formed;
+        narrow = g.narrow;
+      }
 
-  module _ (good : x.number ≡ 0) where
-    well : ReadWell l c
-    well = read_well text l read is-fault good
-
-    -- the catalogue that the tables hold is the one that a sheet is judged over
-    given : (size : ℕ) → work_least ≤ size → Given (tables_of l) c (lent_by (tables_of l) l.state.modules) l.state.needs size
-    given size room =
-        let g = read_given text (tables_of l) size (read_fine text l read is-fault good) well.holds (omega arith) in
-        record {
-          lent_is = ap (lent_by (tables_of l)) well.modules;
-          needs_are = well.needs;
-          room = g.room;
-          holds = g.holds;
-          well_formed = g.well_formed;
-          narrow = g.narrow;
-        }
-
-    pub sheet_told : {area exit : List ℕ} {y : Fault} {r : Checked} → work_least ≤ length area →
-        SheetJudged (lent_by (tables_of l) l.state.modules) l.state.needs sheet area exit y → r ≡ checked_by sheets y → r ≡ check_on text sheet
-    sheet_told {area} room judged e =
-        e ∙ ap (checked_by sheets) (judged.as_rules (tables_of l) c (given (length area) room)) ∙
-        sym (cond_true _ _ (eq-eqb (text_fault limits text).number 0 (sym same_number ∙ good)))
+  pub sheet_told : {sheet area exit : List ℕ} {y : Fault} {r : Checked} {lent : Lent} {needs : ℕ} → work_least ≤ length area →
+      lent ≡ lent_by l.tables l.state.modules → needs ≡ l.state.needs → SheetJudged lent needs sheet area exit y → r ≡ checked_by sheets y →
+      r ≡ check_on text sheet
+  sheet_told {sheet} {area} {exit} {y} room is-lent is-needs judged e =
+      e ∙ ap (checked_by sheets) (told.as_rules l.tables c (given (length area) room)) ∙
+      sym (cond_true _ _ (ap is_fine (read_fine text l read)))
+    where
+      told : SheetJudged (lent_by l.tables l.state.modules) l.state.needs sheet area exit y
+      told = subst₂ (λ (v : Lent) (n : ℕ). SheetJudged v n sheet area exit y) is-lent is-needs judged
 
 -- ANY WORK AREA
 module _ (text sheet work : List ℕ) where

@@ -2,7 +2,7 @@
 -- then with more lines than the allowance (`over_small`) or the text of the sheet's lines (`sheet_left`). Assumes nothing.
 use mathlib.Core.Path.{◌≡◌, refl, sym, ◌∙◌, ap, ap₂}
 use mathlib.Core.Logic.{◌⊎◌, inl, inr}
-use mathlib.Core.Bool.{true, false}
+use mathlib.Core.Bool.{Bool, true, false, cond, false≢true}
 use mathlib.Core.List.{List, flat_map}
 use mathlib.Core.Option.{Option, none, some}
 use Prim.Native.Nat.{ℕ, ◌≤◌, ◌<◌}
@@ -16,12 +16,11 @@ use Rattle.rules.specs.Selection.{Selection}
 use Rattle.rules.specs.Search.{newest_first, best}
 use Rattle.rules.specs.Sheet.{Entry, most_lines, entry_text, sheet_of}
 use Rattle.rules.proofs.Lists.{true_or_false, not_both}
-use Rattle.catalogue.specs.declared.reading.Lines.{Lines}
-use Rattle.catalogue.specs.Reading.{tables_of}
-use Rattle.moves.specs.declared.noting.Noted.{Noted}
-use Rattle.search.specs.declared.walk.Found.{Found}
+use Rattle.std.specs.declared.result.Result.{Result}
+use Rattle.std.specs.declared.result.Result.TheVariants.{Ok, Err}
+use Rattle.catalogue.specs.declared.reading.Catalogue as Code
+use Rattle.search.specs.declared.choices.Choices.{Choices}
 use Rattle.moves.specs.Noting.{Sheet, sheet, noted}
-use Rattle.moves.specs.Scan.{no_number}
 use Rattle.search.specs.Walking.{Walked, told}
 use Rattle.search.proofs.Searched.{ended, search_finds, search_fails, search_over, search_sheet}
 use Rattle.picker.specs.Entry.{work_least}
@@ -35,91 +34,107 @@ abbrev pub sheet_lines : Catalogue → List Entry
 sheet_lines c = sheet_of c (newest_first c)
 
 -- THE SHEET LEFT: all its lines are within the allowance, and their text is noted
-pub record SheetLeft (c : Catalogue) (allowance : ℕ) (f : Found) (area : List ℕ) : Type 0 where
+pub record SheetLeft (c : Catalogue) (allowance : ℕ) (s : Sheet) : Type 0 where
   pub within : length (sheet_lines c) ≤ allowance
-  pub count : f.noted.lines ≡ length (sheet_lines c)
-  pub ends : f.noted.end ≡ length (flat_map entry_text (sheet_lines c))
-  pub text : take f.noted.end area ≡ flat_map entry_text (sheet_lines c)
+  pub count : s.noted.lines ≡ length (sheet_lines c)
+  pub ends : s.noted.end ≡ length (flat_map entry_text (sheet_lines c))
+  pub text : take s.noted.end s.area ≡ flat_map entry_text (sheet_lines c)
 
-module _ {l : Lines} {c : Catalogue} (k : ReadWell l c) (a : ℕ) (work : List ℕ) {f : Found}
-    (is-told : f ≡ told (search_of (tables_of l) l.state.modules a work)) where
-  numbers : length c.needs ≤ no_number
-  numbers = omega (arith, k.carried.needs)
+-- whether an answer is a selection, and the record in it
+is_ok : Result Choices Choices → Bool
+is_ok (Ok r) = true
+is_ok (Err r) = false
+
+ok_or : Choices → Result Choices Choices → Choices
+ok_or d (Ok r) = r
+ok_or d (Err r) = d
+
+module _ {l : Code.Catalogue} {c : Catalogue} (k : ReadWell l c) (a : ℕ) (work : List ℕ) where
+  -- the search that the call makes
+  abbrev made : Walked
+  made = search_of l.tables l.state.modules a work
 
   abbrev walk : Walked
-  walk = ended (tables_of l) c k.holds k.well_formed k.carried.modules numbers a work
+  walk = ended l.tables c k.holds k.well_formed k.carried.modules a work
 
-  told_walk : f ≡ told walk
-  told_walk = is-told ∙ ap (λ (n : ℕ). told (search_of (tables_of l) n a work)) k.modules
+  same_walk : made ≡ walk
+  same_walk = ap (λ (n : ℕ). search_of l.tables n a work) k.modules
 
-  same_found : f.found ≡ walk.found
-  same_found = ap (λ (x : Found). x.found) told_walk
+  finds : (s : Selection) → best c ≡ some s → (made.found ≡ true) × (take c.modules made.choices.chosen ≡ s)
+  finds s e = rw same_walk (search_finds l.tables c k.holds k.well_formed k.carried.modules a work s e)
 
-  finds : (s : Selection) → best c ≡ some s → (f.found ≡ true) × (take c.modules f.choices.chosen ≡ s)
-  finds s e =
-      let h = search_finds (tables_of l) c k.holds k.well_formed k.carried.modules numbers a work s e in
-      (same_found ∙ h.0, ap (λ (x : Found). take c.modules x.choices.chosen) told_walk ∙ h.1)
+  fails : best c ≡ none → made.found ≡ false
+  fails e = rw same_walk (search_fails l.tables c k.holds k.well_formed k.carried.modules a work e).0
 
-  fails : best c ≡ none → f.found ≡ false
-  fails e = same_found ∙ (search_fails (tables_of l) c k.holds k.well_formed k.carried.modules numbers a work e).0
-
-  pub found_best : f.found ≡ true → best c ≡ some (take c.modules f.choices.chosen)
-  found_best h = go (best c) refl
+  -- what is told of the search: a selection, or none
+  found_is : {r : Choices} → Ok r ≡ told made → (made.found ≡ true) × (r ≡ made.choices)
+  unfolding is_ok ok_or
+  found_is {r} e = go made.found e
     where
-      go : (x : Option Selection) → best c ≡ x → best c ≡ some (take c.modules f.choices.chosen)
-      go none e = absurd (not_both h (fails e))
-      go (some s) e = e ∙ ap some (sym (finds s e).1)
+      go : (b : Bool) → ◌≡◌ {A = Result Choices Choices} (Ok r) (cond b (Ok made.choices) (Err made.choices)) → (b ≡ true) × (r ≡ made.choices)
+      go true q = (refl, ap (ok_or r) q)
+      go false q = absurd (false≢true (sym (ap is_ok q)))
 
-  pub found_none : f.found ≡ false → best c ≡ none
-  found_none h = go (best c) refl
+  none_is : {r : Choices} → Err r ≡ told made → made.found ≡ false
+  unfolding is_ok
+  none_is {r} e = go made.found e
+    where
+      go : (b : Bool) → ◌≡◌ {A = Result Choices Choices} (Err r) (cond b (Ok made.choices) (Err made.choices)) → b ≡ false
+      go true q = absurd (false≢true (ap is_ok q))
+      go false q = refl
+
+  pub found_best : {r : Choices} → Ok r ≡ told made → best c ≡ some (take c.modules r.chosen)
+  found_best {r} e = go (best c) refl
+    where
+      go : (x : Option Selection) → best c ≡ x → best c ≡ some (take c.modules r.chosen)
+      go none q = absurd (not_both (found_is e).0 (fails q))
+      go (some s) q = q ∙ ap some (sym (finds s q).1 ∙ ap (λ (x : Choices). take c.modules x.chosen) (sym (found_is e).1))
+
+  pub found_none : {r : Choices} → Err r ≡ told made → best c ≡ none
+  found_none e = go (best c) refl
     where
       go : (x : Option Selection) → best c ≡ x → best c ≡ none
-      go none e = e
-      go (some s) e = absurd (not_both (finds s e).0 h)
+      go none q = q
+      go (some s) q = absurd (not_both (finds s q).0 (none_is e))
 
-  module _ (e : best c ≡ none) (small : a ≤ most_lines) (room : work_least ≤ length work) where
+  module _ (e : best c ≡ none) (small : a ≤ most_lines) (room : work_least ≤ length work) {s : Sheet} (is-sheet : s ≡ made.sheet) where
     abbrev lines : List Entry
     lines = sheet_lines c
 
     abbrev text : List ℕ
     text = flat_map entry_text lines
 
-    same_noted : f.noted ≡ walk.sheet.noted
-    same_noted = ap (λ (x : Found). x.noted) told_walk
+    same_sheet : s ≡ walk.sheet
+    same_sheet = is-sheet ∙ ap (λ (w : Walked). w.sheet) same_walk
 
-    all_noted : length lines ≤ a → walk.sheet ≡ sheet (sets work 0 text) (noted (length lines) (length text) false)
-    all_noted h =
-        search_sheet (tables_of l) c k.holds k.well_formed k.carried.modules numbers a work k.carried e h small (omega arith)
+    all_noted : length lines ≤ a → s ≡ sheet (sets work 0 text) (noted (length lines) (length text) false)
+    all_noted h = same_sheet ∙ search_sheet l.tables c k.holds k.well_formed k.carried.modules a work k.carried e h small (omega arith)
 
-    too_many : a < length lines → f.noted.over ≡ true
-    too_many h =
-        ap (λ (n : Noted). n.over) same_noted ∙
-        search_over (tables_of l) c k.holds k.well_formed k.carried.modules numbers a work e h
+    too_many : a < length lines → s.noted.over ≡ true
+    too_many h = ap (λ (x : Sheet). x.noted.over) same_sheet ∙ search_over l.tables c k.holds k.well_formed k.carried.modules a work e h
 
-    pub over_small : f.noted.over ≡ true → a < length lines
+    pub over_small : s.noted.over ≡ true → a < length lines
     over_small h = go (true_or_false (leb (length lines) a))
       where
         go : (leb (length lines) a ≡ true) ⊎ (leb (length lines) a ≡ false) → a < length lines
-        go (inl b) = absurd (not_both h (ap (λ (n : Noted). n.over) same_noted ∙ ap (λ (x : Sheet). x.noted.over) (all_noted (leb-true _ a b))))
+        go (inl b) = absurd (not_both h (ap (λ (x : Sheet). x.noted.over) (all_noted (leb-true _ a b))))
         go (inr b) = leb-false _ a b
 
-    pub sheet_left : {area : List ℕ} → area ≡ (search_of (tables_of l) l.state.modules a work).sheet.area → f.noted.over ≡ false → SheetLeft c a f area
-    sheet_left {area} is-area h = go (true_or_false (leb (length lines) a))
+    pub sheet_left : s.noted.over ≡ false → SheetLeft c a s
+    sheet_left h = go (true_or_false (leb (length lines) a))
       where
-        left : length lines ≤ a → SheetLeft c a f area
+        left : length lines ≤ a → SheetLeft c a s
         left b =
-            let ends : f.noted.end ≡ length text = ap (λ (n : Noted). n.end) same_noted ∙ ap (λ (x : Sheet). x.noted.end) (all_noted b) in
+            let ends : s.noted.end ≡ length text = ap (λ (x : Sheet). x.noted.end) (all_noted b) in
             record {
               within = b;
-              count = ap (λ (n : Noted). n.lines) same_noted ∙ ap (λ (x : Sheet). x.noted.lines) (all_noted b);
+              count = ap (λ (x : Sheet). x.noted.lines) (all_noted b);
               ends = ends;
               text =
-                  ap₂ take ends
-                  (is-area ∙ ap (λ (n : ℕ). (search_of (tables_of l) n a work).sheet.area) k.modules ∙ ap (λ (x : Sheet). x.area) (all_noted b) ∙
-                  stored_over text work (omega (arith, lines_short lines))) ∙
+                  ap₂ take ends (ap (λ (x : Sheet). x.area) (all_noted b) ∙ stored_over text work (omega (arith, lines_short lines))) ∙
                   take-append_seam text _;
             }
 
-        go : (leb (length lines) a ≡ true) ⊎ (leb (length lines) a ≡ false) → SheetLeft c a f area
+        go : (leb (length lines) a ≡ true) ⊎ (leb (length lines) a ≡ false) → SheetLeft c a s
         go (inl b) = left (leb-true _ a b)
         go (inr b) = absurd (not_both (too_many (leb-false _ a b)) h)

@@ -1,7 +1,8 @@
 -- What a pick rests on inside: areas with room, and the search over tables. Assumes nothing: these are definitions.
 use Rattle.std.specs.Prelude.{List, ℕ, ◌≤◌, length, get_or}
 use Rattle.rules.specs.Sheet.{most_lines}
-use Rattle.store.specs.Tables.{Tables}
+use Rattle.store.specs.declared.tables.Tables.{Tables}
+use Rattle.moves.specs.Noting.{fresh}
 use Rattle.search.specs.Walking.{moves_in, Walked, search_in}
 use Rattle.picker.specs.Entry.{selection_least, sheet_least, work_least}
 
@@ -15,4 +16,4 @@ pub record HasRoom (selection sheet work : List ℕ) (allowance : ℕ) : Type 0 
 -- a whole search over the tables, of so many modules
 abbrev pub search_of : Tables → (modules allowance : ℕ) → (work : List ℕ) → Walked
 search_of t n a w =
-    search_in (moves_in t.values t.starts t.marks t.firsts t.counts t.targets t.lows t.highs n) n a (get_or t.firsts 0 0) w
+    search_in (moves_in t n) n a (get_or t.firsts 0 0) (fresh w)

@@ -3,12 +3,17 @@
 
 ghost use Rattle.std.specs.Prelude.{◌≡◌, ◌≤◌, length};
 ghost use Rattle.rules.specs.Lines.{fault};
+ghost use Rattle.frames.specs.Faults.{number_of, fault_told};
+ghost use Rattle.frames.specs.Kinds.{text_number};
 ghost use Rattle.picker.specs.Entry.{work_least, picked, ReadOwes, PickOwes};
 ghost use Rattle.picker.specs.Checking.{checked_by, check_on, check_of, work_after};
 ghost use Rattle.picker.specs.Inside.{HasRoom};
 
 use catalogue::reading;
-use frames::kinds::{CATALOGUE, SHEET};
+use catalogue::reading::Catalogue;
+use frames::faults::Fault;
+use frames::kinds::Text;
+use moves::noting::Sheet;
 use search::find;
 use selection::text::write_selection;
 use sheets::reading::read_sheet;
@@ -60,6 +65,13 @@ fn answer(number: u8, line: u32, size: u32) -> Picked
     }
 }
 
+// A text's refusal.
+fn refused(f: Fault) -> Picked
+    ensures { result ≡ picked (fault (number_of f.refusal) f.line) 0 }
+{
+    answer(f.refusal as u8, f.line, 0)
+}
+
 // A pick once the areas fit: the text is read, and its catalogue searched. What the search leaves in the work area stays there.
 fn pick_in(
     text: &[u8],
@@ -72,36 +84,23 @@ fn pick_in(
     ensures { ReadOwes text.now selection.old sheet.old allowance result
         selection.new sheet.new }
 {
-    let read = reading::read(text);
-    let s = read.state;
-    let told = reading::told(read.number, read.line, s, &read.counts);
-    if told.number != 0 {
-        return answer(told.number, told.line, 0);
+    let mut catalogue = Catalogue::none();
+    if let Err(told) = reading::read(text, &mut catalogue) {
+        return refused(told);
     }
-    let r = find::find(
-        &read.values,
-        &read.starts,
-        &read.marks,
-        &read.firsts,
-        &read.counts,
-        &read.targets,
-        &read.lows,
-        &read.highs,
-        work,
-        s.modules,
-        allowance,
-    );
-    if r.found {
-        let choices = r.choices;
-        let size = write_selection(selection, &read.values, &choices.chosen, s.modules);
+    let t = &catalogue.tables;
+    let modules = catalogue.state.modules;
+    let mut lines = Sheet::new(work, allowance);
+    if let Ok(choices) = find::find(t, modules, &mut lines) {
+        let size = write_selection(selection, &t.values, &choices.chosen, modules);
         return answer(SELECTED, 0, size as u32);
     }
-    let noted = r.noted;
+    let noted = lines.noted;
     let over = noted.over;
     if over {
         return answer(NO_SHEET, 0, 0);
     }
-    let size = sheet::write_sheet(sheet, work, noted.lines, noted.end);
+    let size = sheet::write_sheet(sheet, lines.area, noted.lines, noted.end);
     answer(REFUTED, 0, size as u32)
 }
 
@@ -129,20 +128,20 @@ pub fn pick(
 }
 
 // A text's refusal, or that it has none: then no text is at fault.
-fn verdict(number: u8, line: u32, text: u8) -> Checked
-    ensures { result ≡ checked_by text (fault number line) }
+fn verdict(told: Result<(), Fault>, text: Text) -> Checked
+    ensures { result ≡ checked_by (text_number text) (fault_told told) }
 {
-    if number == 0 {
-        return Checked {
-            number: number,
-            line: line,
+    match told {
+        Ok(()) => Checked {
+            number: 0,
+            line: 0,
             text: 0,
-        };
-    }
-    Checked {
-        number: number,
-        line: line,
-        text: text,
+        },
+        Err(f) => Checked {
+            number: f.refusal as u8,
+            line: f.line,
+            text: text as u8,
+        },
     }
 }
 
@@ -151,27 +150,13 @@ fn check_in(text: &[u8], sheet: &[u8], work: &mut [u8]) -> Checked
     requires { work_least ≤ length work.old }
     ensures { result ≡ check_on text.now sheet.now }
 {
-    let read = reading::read(text);
-    let s = read.state;
-    let told = reading::told(read.number, read.line, s, &read.counts);
-    if told.number != 0 {
-        return verdict(told.number, told.line, CATALOGUE);
+    let mut catalogue = Catalogue::none();
+    if let Err(told) = reading::read(text, &mut catalogue) {
+        return verdict(Err(told), Text::Catalogue);
     }
-    let judged = read_sheet(
-        sheet,
-        &read.values,
-        &read.owners,
-        &read.firsts,
-        &read.counts,
-        &read.needies,
-        &read.targets,
-        &read.lows,
-        &read.highs,
-        s.modules,
-        s.needs,
-        work,
-    );
-    verdict(judged.number, judged.line, SHEET)
+    let s = catalogue.state;
+    let lent = catalogue.tables.lend(s.modules, s.needs);
+    verdict(read_sheet(sheet, &lent, work), Text::Sheet)
 }
 
 // Checks a sheet over a catalogue: 0 exactly for the text of a sheet that refutes it. The work area is all zero afterwards.
@@ -180,7 +165,11 @@ pub fn check(text: &[u8], sheet: &[u8], work: &mut [u8]) -> Checked
     ensures work { work.new ≡ work_after work.old }
 {
     if work.len() < WORK_LEAST {
-        return verdict(UNFIT, 0, 0);
+        return Checked {
+            number: UNFIT,
+            line: 0,
+            text: 0,
+        };
     }
     let told = check_in(text, sheet, work);
     area::clear(work);

@@ -3,7 +3,7 @@ ghost use Rattle.std.specs.Prelude.{◌≡◌, ◌+◌, ◌≤◌, length, take}
 ghost use Rattle.std.proofs.lemmas.List.Edits.{sets};
 ghost use Rattle.picker.specs.Written.{sheet_in};
 
-use frames::kinds::{SHEET_END, SHEET_HEAD};
+use frames::kinds::Kind;
 use frames::written;
 
 // Writes a sheet's text at the start of an area, with `count` lines whose text ends at `end`; says how long it is. Every other byte of the area stays.
@@ -14,8 +14,8 @@ pub fn write_sheet(out: &mut [u8], lines: &[u8], count: u16, end: usize) -> usiz
     ensures area { out.new ≡ sets out.old 0 (sheet_in (take end lines.now) count) }
 {
     let [high, low] = count.to_be_bytes();
-    let start = written::write_frame(out, 0, &[SHEET_HEAD, high, low]);
+    let start = written::write_frame(out, 0, &[Kind::SheetHead as u8, high, low]);
     let stop = start + end;
     out[start..stop].copy_from_slice(&lines[..end]);
-    written::write_frame(out, stop, &[SHEET_END])
+    written::write_frame(out, stop, &[Kind::SheetEnd as u8])
 }

@@ -4,6 +4,4 @@ use Rattle.picker.proofs.check_in.Goals as goal
 
 pub returns : goal.returns
 returns c =
-    let given = c.args in
-    sheet_told given.text.now given.sheet.now _ c.read-read.ensures c.told-told.ensures c.if-told-ne0.false c.requires
-    c.read_sheet-judged.ensures c.verdict-2.ensures
+    sheet_told c.in_default.ensures c.requires c.lend-lent.ensures.lists c.lend-lent.ensures.needs c.read_sheet.ensures c.verdict-2.ensures
