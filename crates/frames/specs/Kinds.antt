@@ -7,7 +7,7 @@ use Rattle.rules.specs.Frames as Rules
 use Rattle.frames.specs.declared.kinds.Text.{Text}
 use Rattle.frames.specs.declared.kinds.Text.TheVariants.{Catalogue, Sheet}
 use Rattle.frames.specs.declared.kinds.Kind.{Kind}
-use Rattle.frames.specs.declared.kinds.Kind.TheVariants.{Head, Version, Need, End, Caret, SheetHead, NeedLine, Resolved, SheetEnd}
+use Rattle.frames.specs.declared.kinds.Kind.TheVariants.{Head, Version, Need, End, Caret, SelectionHead, Selected, SelectionEnd, Answer, SheetHead, NeedLine, Resolved, SheetEnd}
 use Rattle.frames.specs.declared.kinds.Row.{Row}
 
 abbrev pub text_number : Text → ℕ
@@ -20,6 +20,10 @@ kind_number Version = 2
 kind_number Need = 3
 kind_number End = 4
 kind_number Caret = 5
+kind_number SelectionHead = 17
+kind_number Selected = 18
+kind_number SelectionEnd = 20
+kind_number Answer = 31
 kind_number SheetHead = 32
 kind_number NeedLine = 33
 kind_number Resolved = 34

@@ -20,17 +20,17 @@ pub fn pair_in(frame: [u8; LONGEST], at: u8) -> u16
     ensures { result ≡ pair_at frame at }
 {
     let i = at as usize;
-    let high = byte_in(frame, i) as u16;
-    let low = byte_in(frame, i + 1) as u16;
-    high * 256 + low
+    u16::from_be_bytes([byte_in(frame, i), byte_in(frame, i + 1)])
 }
 
 pub fn version_in(frame: [u8; LONGEST], at: u8) -> Version
     ensures { result.0 ≡ version_at frame at }
 {
     let i = at as usize;
-    let major = byte_in(frame, i) as u32;
-    let minor = byte_in(frame, i + 1) as u32;
-    let patch = byte_in(frame, i + 2) as u32;
-    Version(major * 65536 + minor * 256 + patch)
+    let [major, minor, patch] = [
+        byte_in(frame, i),
+        byte_in(frame, i + 1),
+        byte_in(frame, i + 2),
+    ];
+    Version(u32::from_be_bytes([0, major, minor, patch]))
 }

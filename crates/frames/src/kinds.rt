@@ -9,7 +9,7 @@ pub enum Text {
     Sheet = 2,
 }
 
-// The kinds of frames, a catalogue's and a sheet's, each with the byte that a frame begins with.
+// The kinds of frames, of a catalogue, a selection, an answer and a sheet, each with the byte that a frame begins with.
 #[derive(Clone, Copy, PartialEq, Eq)]
 pub enum Kind {
     Head = 0x01,
@@ -17,6 +17,10 @@ pub enum Kind {
     Need = 0x03,
     End = 0x04,
     Caret = 0x05,
+    SelectionHead = 0x11,
+    Selected = 0x12,
+    SelectionEnd = 0x14,
+    Answer = 0x1F,
     SheetHead = 0x20,
     NeedLine = 0x21,
     Resolved = 0x22,

@@ -10,19 +10,18 @@ use crate::scan;
 use crate::wanted::Wanted;
 use frames::numbers::{ModuleNo, Place};
 use store::limits::MODULES;
-use store::lookup;
 use store::tables::Tables;
 
 // The version at a place lies in the range that is left to the wanted module, and none of its own needs leaves out a chosen version.
 pub fn fits(t: &Tables, chosen: &[u16; MODULES as usize], w: Wanted, p: Place) -> bool
     ensures { result ≡ fits_in t.now chosen.now w p.0 }
 {
-    let v = lookup::version_at(&t.values, p);
+    let v = t.version(p);
     let within = v.is_within(w.low, w.high);
     if !within {
         return false;
     }
-    let own = lookup::needs_of(&t.starts, &t.marks, p);
+    let own = t.needs(p);
     let bar = scan::first_bar(t, chosen, true, w.owner, p, own);
     bar.is_none()
 }

@@ -72,8 +72,8 @@ impl<'a> Sheet<'a> {
         ensures allowance { self.new.allowance ≡ self.old.allowance }
         ensures sheet { sheet_of self.new ≡ note_in self.old.allowance (entry_bytes (cites k)) (sheet_of self.old) }
     {
-        let bytes = [Kind::NeedLine as u8, (k / 256 % 256) as u8, (k % 256) as u8];
-        self.note(&bytes);
+        let [_, _, high, low] = k.to_be_bytes();
+        self.note(&[Kind::NeedLine as u8, high, low]);
     }
 
     // A resolved line, from two lines at a module.
@@ -82,14 +82,9 @@ impl<'a> Sheet<'a> {
         ensures allowance { self.new.allowance ≡ self.old.allowance }
         ensures sheet { sheet_of self.new ≡ note_in self.old.allowance (entry_bytes (resolves a b m.0)) (sheet_of self.old) }
     {
-        let bytes = [
-            Kind::Resolved as u8,
-            (a / 256 % 256) as u8,
-            (a % 256) as u8,
-            (b / 256 % 256) as u8,
-            (b % 256) as u8,
-            (m.0 % 256) as u8,
-        ];
-        self.note(&bytes);
+        let [a_high, a_low] = a.to_be_bytes();
+        let [b_high, b_low] = b.to_be_bytes();
+        let [_, owner] = m.0.to_be_bytes();
+        self.note(&[Kind::Resolved as u8, a_high, a_low, b_high, b_low, owner]);
     }
 }

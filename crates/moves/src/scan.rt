@@ -5,7 +5,6 @@ ghost use Rattle.moves.specs.Scan.{leaves_out_in, bars_in, first_in, scan_in, ov
 use frames::access::at;
 use frames::numbers::{ModuleNo, Place, Version};
 use store::limits::MODULES;
-use store::lookup;
 use store::lookup::Span;
 use store::tables::Tables;
 
@@ -13,7 +12,7 @@ use store::tables::Tables;
 pub fn leaves_out(t: &Tables, k: u32, p: Place) -> bool
     ensures { result ≡ leaves_out_in t.now k (suc p.0) }
 {
-    let v = lookup::version_at(&t.values, p);
+    let v = t.version(p);
     let low = Version(at(&t.lows, k as usize, 0));
     let high = Version(at(&t.highs, k as usize, 0));
     !v.is_within(low, high)
@@ -77,14 +76,14 @@ pub fn scan_module(
     ensures { result ≡ scan_in t.now chosen.now m.0 (suc p.0) k.0 }
 {
     if k == m {
-        let own = lookup::needs_of(&t.starts, &t.marks, p);
+        let own = t.needs(p);
         return first_bar(t, chosen, true, m, p, own);
     }
     let other = at(chosen, k.0 as usize, 0);
     if other == 0 {
         return None;
     }
-    let needs = lookup::needs_of(&t.starts, &t.marks, Place(other - 1));
+    let needs = t.needs(Place(other - 1));
     first_bar(t, chosen, false, m, p, needs)
 }
 

@@ -6,7 +6,6 @@ ghost use Rattle.moves.specs.Wanted.{none_wanted, narrowed, better_in, fold_in, 
 use frames::access::at;
 use frames::numbers::{ModuleNo, Place, Version};
 use store::limits::MODULES;
-use store::lookup;
 use store::lookup::Span;
 use store::tables::Tables;
 
@@ -106,7 +105,7 @@ pub fn wanted_of_module(
     if state == 0 {
         return b;
     }
-    let needs = lookup::needs_of(&t.starts, &t.marks, Place(state - 1));
+    let needs = t.needs(Place(state - 1));
     wanted_of_version(t, chosen, needs, b)
 }
 

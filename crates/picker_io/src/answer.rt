@@ -2,12 +2,11 @@
 ghost use Rattle.std.specs.Prelude.{◌≡◌, take};
 ghost use Rattle.picker_io.specs.Answer.{told_text, answer_text};
 
+use frames::kinds::Kind;
 use frames::written;
 use picker::{REFUTED, SELECTED};
 
-// The kind of the frame that tells a number and a line, and the bytes of its line.
-const TOLD: u8 = 0x1F;
-
+// The bytes of the line that tells a number and a line.
 pub const TOLD_BYTES: usize = 11;
 
 // The line that tells a number and a line.
@@ -16,7 +15,7 @@ pub fn told(number: u8, line: u32) -> [u8; TOLD_BYTES]
 {
     let mut out = [0; TOLD_BYTES];
     let [_, _, high, low] = line.to_be_bytes();
-    written::write_frame(&mut out, 0, &[TOLD, number, high, low]);
+    written::write_frame(&mut out, 0, &[Kind::Answer as u8, number, high, low]);
     out
 }
 

@@ -7,7 +7,6 @@ use crate::choices::Choices;
 use crate::walk;
 use frames::numbers::{ModuleNo, Place};
 use moves::noting::Sheet;
-use store::lookup;
 use store::tables::Tables;
 
 // The module that every selection has.
@@ -22,7 +21,7 @@ pub fn find(t: &Tables, modules: u16, sheet: &mut Sheet) -> Result<Choices, Choi
     ensures told { result ≡ told (search_in (moves_in t.now modules) modules sheet.old.allowance (get_or t.now.firsts 0 0) (sheet_of sheet.old)) }
     ensures sheet { sheet_of sheet.new ≡ (search_in (moves_in t.now modules) modules sheet.old.allowance (get_or t.now.firsts 0 0) (sheet_of sheet.old)).sheet }
 {
-    let versions = lookup::versions_of(&t.firsts, &t.counts, ROOT);
+    let versions = t.versions(ROOT);
     let root = Choices::none().choose(ROOT, Place(versions.first));
     walk::place(t, modules, modules, root, sheet)
 }

@@ -8,7 +8,6 @@ use frames::numbers::Place;
 use moves::fitting;
 use moves::noting::Sheet;
 use moves::wanted::Wanted;
-use store::lookup;
 use store::tables::{Tables, one_less};
 
 // A trial of the wanted module at a place: it fails at once, and the need that bars it is cited, or the search goes on to the next place. From a failure
@@ -68,7 +67,7 @@ pub fn place(
         return Ok(record);
     };
     let m = w.owner;
-    let versions = lookup::versions_of(&t.firsts, &t.counts, m);
+    let versions = t.versions(m);
     let mut came = sheet.noted.lines;
     sheet.cite(w.need);
     for untried in (0..versions.count).rev() {

@@ -4,6 +4,7 @@ ghost use mathlib.Core.List.{flat_map};
 ghost use Rattle.std.proofs.lemmas.List.Edits.{sets};
 ghost use Rattle.selection.specs.Written.{settled_in, line_of, line_in, text_in};
 
+use frames::kinds::Kind;
 use frames::numbers::{ModuleNo, Version};
 use frames::{access, written};
 
@@ -28,18 +29,13 @@ pub fn write_selected(out: &mut [u8], at: usize, m: ModuleNo, v: Version) -> usi
     ensures area { out.new ≡ sets out.old at (line_of m.0 v.0) }
 {
     let [_, major, minor, patch] = v.0.to_be_bytes();
-    let line = [18, (m.0 % 256) as u8, major, minor, patch];
+    let [_, owner] = m.0.to_be_bytes();
+    let line = [Kind::Selected as u8, owner, major, minor, patch];
     written::write_frame(out, at, &line)
 }
 
 // Writes the lines of those of the first modules that have a version chosen; says where the last one ends.
-pub fn write_all<'a>(
-    out: &'a mut [u8],
-    at: usize,
-    values: &'a [u32],
-    chosen: &'a [u16],
-    modules: u16,
-) -> usize
+pub fn write_all(out: &mut [u8], at: usize, values: &[u32], chosen: &[u16], modules: u16) -> usize
     requires { at + 13 * length (settled_in chosen.now modules) ≤ length out.old }
     ensures size { result ≡ at + 13 * length (settled_in chosen.now modules) }
     ensures area { out.new ≡ sets out.old at
@@ -57,21 +53,15 @@ pub fn write_all<'a>(
 }
 
 // Writes a selection's text at the start of an area; says how long it is. Every other byte of the area stays.
-pub fn write_selection<'a>(
-    out: &'a mut [u8],
-    values: &'a [u32],
-    chosen: &'a [u16],
-    modules: u16,
-) -> usize
+pub fn write_selection(out: &mut [u8], values: &[u32], chosen: &[u16], modules: u16) -> usize
     requires modules_bound { modules ≤ 32 }
     requires room { 428 ≤ length out.old }
     ensures size { result ≡ length (text_in values.now chosen.now modules) }
     ensures area { out.new ≡ sets out.old 0 (text_in values.now chosen.now modules) }
 {
     let count = count_settled(chosen, modules);
-    let head: [u8; 2] = [17, (count % 256) as u8];
-    let start = written::write_frame(out, 0, &head);
+    let [_, low] = count.to_be_bytes();
+    let start = written::write_frame(out, 0, &[Kind::SelectionHead as u8, low]);
     let end = write_all(out, start, values, chosen, modules);
-    let last: [u8; 1] = [20];
-    written::write_frame(out, end, &last)
+    written::write_frame(out, end, &[Kind::SelectionEnd as u8])
 }

@@ -3,7 +3,7 @@ ghost use Rattle.std.specs.Prelude.{◌≡◌, get_or};
 ghost use Rattle.store.specs.Frame.{version};
 ghost use Rattle.store.specs.Tables.{places_in, needs_in, need_in};
 
-use crate::tables::{UNUSED, one_less};
+use crate::tables::{Tables, UNUSED, one_less};
 use frames::access::at;
 use frames::numbers::{ModuleNo, Place, Version};
 
@@ -23,6 +23,7 @@ pub struct Need {
 }
 
 // The version at a place.
+#[inline]
 pub fn version_at(values: &[u32], p: Place) -> Version
     ensures { result ≡ version (get_or values.now p.0 0) }
 {
@@ -30,7 +31,8 @@ pub fn version_at(values: &[u32], p: Place) -> Version
 }
 
 // The places of a module's versions, oldest first.
-pub fn versions_of<'a>(firsts: &'a [u16], counts: &'a [u16], m: ModuleNo) -> Span
+#[inline]
+pub fn versions_of(firsts: &[u16], counts: &[u16], m: ModuleNo) -> Span
     ensures { result ≡ places_in firsts.now counts.now m.0 }
 {
     let i = m.0 as usize;
@@ -41,7 +43,8 @@ pub fn versions_of<'a>(firsts: &'a [u16], counts: &'a [u16], m: ModuleNo) -> Spa
 }
 
 // The numbers of a version's needs.
-pub fn needs_of<'a>(starts: &'a [u16], marks: &'a [u16], p: Place) -> Span
+#[inline]
+pub fn needs_of(starts: &[u16], marks: &[u16], p: Place) -> Span
     ensures { result ≡ needs_in starts.now marks.now p.0 }
 {
     let i = p.0 as usize;
@@ -52,7 +55,8 @@ pub fn needs_of<'a>(starts: &'a [u16], marks: &'a [u16], p: Place) -> Span
 }
 
 // A need by its number.
-pub fn need_at<'a>(targets: &'a [u16], lows: &'a [u32], highs: &'a [u32], k: u16) -> Need
+#[inline]
+pub fn need_at(targets: &[u16], lows: &[u32], highs: &[u32], k: u16) -> Need
     ensures { result ≡ need_in targets.now lows.now highs.now k }
 {
     let i = k as usize;
@@ -60,5 +64,31 @@ pub fn need_at<'a>(targets: &'a [u16], lows: &'a [u32], highs: &'a [u32], k: u16
         target: ModuleNo(at(targets, i, 0)),
         low: Version(at(lows, i, 0)),
         high: Version(at(highs, i, 0)),
+    }
+}
+
+impl Tables {
+    // The version at a place.
+    #[inline]
+    pub fn version(&self, p: Place) -> Version
+        ensures { result ≡ version (get_or self.now.values p.0 0) }
+    {
+        version_at(&self.values, p)
+    }
+
+    // The places of a module's versions, oldest first.
+    #[inline]
+    pub fn versions(&self, m: ModuleNo) -> Span
+        ensures { result ≡ places_in self.now.firsts self.now.counts m.0 }
+    {
+        versions_of(&self.firsts, &self.counts, m)
+    }
+
+    // The numbers of a version's needs.
+    #[inline]
+    pub fn needs(&self, p: Place) -> Span
+        ensures { result ≡ needs_in self.now.starts self.now.marks p.0 }
+    {
+        needs_of(&self.starts, &self.marks, p)
     }
 }

@@ -33,7 +33,7 @@ place-loop-untried-init t c =
       allowance = c.cite.ensures.allowance;
       goes = record {
         same = place_begun v a.sheet.now.allowance a.choices (sheet_of a.sheet.now) c.next_module-record.ensures
-            a.unsettled c.if-unsettled-eq0.false c.in-Some.is (ap (λ (s : Span). falling s.first s.count) c.versions_of-versions.ensures)
+            a.unsettled c.if-unsettled-eq0.false c.in-Some.is (ap (λ (s : Span). falling s.first s.count) c.versions-versions.ensures)
             c.cite.ensures.sheet;
       };
     }

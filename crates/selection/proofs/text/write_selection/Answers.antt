@@ -16,9 +16,9 @@ write_frame-requires c =
 pub returns : goal.returns
 returns c =
     let given = c.args in
-    let head = c.write_frame-start.ensures in
+    let head = rw c.to_be_bytes.ensures at c.write_frame-start.ensures.area in
     let lines = c.write_all-end.ensures in
     let last = c.write_frame.ensures in
-    let stored = text_stored given.values.now given.chosen.now given.modules given.out.now c.count_settled-count.ensures head.size head.area
+    let stored = text_stored given.values.now given.chosen.now given.modules given.out.now c.count_settled-count.ensures c.write_frame-start.ensures.size head
     lines.size lines.area last.size last.area in
     record { size = stored.0; area = stored.1 }
