@@ -7,12 +7,12 @@ ghost use Rattle.frames.specs.Faults.{number_of, fault_told};
 ghost use Rattle.frames.specs.Kinds.{text_number};
 ghost use Rattle.picker.specs.Entry.{work_least, picked, ReadOwes, PickOwes};
 ghost use Rattle.picker.specs.Checking.{checked_by, check_on, check_of, work_after};
-ghost use Rattle.picker.specs.Inside.{HasRoom};
+ghost use Rattle.picker.specs.Inside.{outcome_number, HasRoom};
 
 use catalogue::reading;
 use catalogue::reading::Catalogue;
 use frames::faults::Fault;
-use frames::kinds::Text;
+pub use frames::kinds::Text;
 use moves::noting::Sheet;
 use search::find;
 use selection::text::write_selection;
@@ -46,22 +46,22 @@ pub struct Checked {
     pub text: u8,
 }
 
-// Numbers of the rules' table: a selection is written, no valid selection with a sheet written and without one, and areas that don't fit.
-pub const SELECTED: u8 = 0;
+// How a call ends that doesn't tell a text's fault, each with its number in the rules' table.
+#[derive(Clone, Copy, PartialEq, Eq)]
+pub enum Outcome {
+    Selected = 0,
+    Refuted = 9,
+    NoSheet = 10,
+    Unfit = 11,
+}
 
-pub const REFUTED: u8 = 9;
-
-const NO_SHEET: u8 = 10;
-
-const UNFIT: u8 = 11;
-
-fn answer(number: u8, line: u32, size: u32) -> Picked
-    ensures { result ≡ picked (fault number line) size }
+fn answer(outcome: Outcome, size: u32) -> Picked
+    ensures { result ≡ picked (fault (outcome_number outcome) 0) size }
 {
     Picked {
-        number: number,
-        line: line,
-        size: size,
+        number: outcome as u8,
+        line: 0,
+        size,
     }
 }
 
@@ -69,7 +69,11 @@ fn answer(number: u8, line: u32, size: u32) -> Picked
 fn refused(f: Fault) -> Picked
     ensures { result ≡ picked (fault (number_of f.refusal) f.line) 0 }
 {
-    answer(f.refusal as u8, f.line, 0)
+    Picked {
+        number: u8::from(f.refusal),
+        line: f.line,
+        size: 0,
+    }
 }
 
 // A pick once the areas fit: the text is read, and its catalogue searched. What the search leaves in the work area stays there.
@@ -93,15 +97,15 @@ fn pick_in(
     let mut lines = Sheet::new(work, allowance);
     if let Ok(choices) = find::find(t, modules, &mut lines) {
         let size = write_selection(selection, &t.values, &choices.chosen, modules);
-        return answer(SELECTED, 0, size as u32);
+        return answer(Outcome::Selected, size as u32);
     }
     let noted = lines.noted;
     let over = noted.over;
     if over {
-        return answer(NO_SHEET, 0, 0);
+        return answer(Outcome::NoSheet, 0);
     }
     let size = sheet::write_sheet(sheet, lines.area, noted.lines, noted.end);
-    answer(REFUTED, 0, size as u32)
+    answer(Outcome::Refuted, size as u32)
 }
 
 // Picks for a catalogue's text: writes the best selection's text, or a sheet where no selection is valid. The work area is all zero afterwards.
@@ -120,7 +124,7 @@ pub fn pick(
         & (WORK_LEAST <= work.len())
         & (allowance <= MOST_LINES);
     if !fit {
-        return answer(UNFIT, 0, 0);
+        return answer(Outcome::Unfit, 0);
     }
     let told = pick_in(text, selection, sheet, work, allowance);
     area::clear(work);
@@ -138,7 +142,7 @@ fn verdict(told: Result<(), Fault>, text: Text) -> Checked
             text: 0,
         },
         Err(f) => Checked {
-            number: f.refusal as u8,
+            number: u8::from(f.refusal),
             line: f.line,
             text: text as u8,
         },
@@ -166,7 +170,7 @@ pub fn check(text: &[u8], sheet: &[u8], work: &mut [u8]) -> Checked
 {
     if work.len() < WORK_LEAST {
         return Checked {
-            number: UNFIT,
+            number: Outcome::Unfit as u8,
             line: 0,
             text: 0,
         };

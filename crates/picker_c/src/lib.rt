@@ -5,19 +5,17 @@ ghost use Rattle.std.specs.Prelude.{◌≡◌};
 ghost use Rattle.picker.specs.Checking.{check_of, work_after};
 ghost use Rattle.picker_c.specs.Packed.{text_of, packed, packed_pick, packed_check, PackedOwes};
 
-use picker::{Checked, Picked};
+use picker::{Checked, Picked, Text};
 
-// Texts that can be at fault.
+// What stands for no text.
 const NEITHER: u8 = 0;
-
-const CATALOGUE: u8 = 1;
 
 // The text that a pick's number finds at fault: the catalogue with 1 to 8.
 fn text_of(number: u8) -> u8
     ensures { result ≡ text_of number }
 {
     match number {
-        1..=8 => CATALOGUE,
+        1..=8 => Text::Catalogue as u8,
         _ => NEITHER,
     }
 }

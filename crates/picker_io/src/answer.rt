@@ -4,7 +4,7 @@ ghost use Rattle.picker_io.specs.Answer.{told_text, answer_text};
 
 use frames::kinds::Kind;
 use frames::written;
-use picker::{REFUTED, SELECTED};
+use picker::Outcome;
 
 // The bytes of the line that tells a number and a line.
 pub const TOLD_BYTES: usize = 11;
@@ -36,9 +36,11 @@ pub fn text_of<'a>(
 ) -> &'a [u8]
     ensures { result.now ≡ answer_text number size selection.now sheet.now told.now }
 {
-    match number {
-        SELECTED => start_of(selection, size),
-        REFUTED => start_of(sheet, size),
-        _ => told,
+    if number == Outcome::Selected as u8 {
+        return start_of(selection, size);
     }
+    if number == Outcome::Refuted as u8 {
+        return start_of(sheet, size);
+    }
+    told
 }

@@ -1,6 +1,6 @@
 //! Benchmarks by one command: a table on the screen, and the same as docs/BENCHMARKS.md.
 //!
-//! The words `count JOB SET` and `stack KIND BYTES` are for the runs that the program starts of itself, under callgrind and on small stacks.
+//! The words `count JOB SET` are for the runs that the program starts of itself, under callgrind.
 
 mod counts;
 mod jobs;
@@ -18,7 +18,6 @@ fn main() -> ExitCode {
     match words[..] {
         [] => report::write(),
         ["count", job, set] => counts::run_once(job, set),
-        ["stack", kind, bytes] => stack::run_on(kind, bytes),
         _ => {
             eprintln!("usage: bench");
             return ExitCode::from(2);

@@ -182,7 +182,15 @@ fn counted(set: &Set) -> Option<[f64; JOBS.len()]> {
 
 /// A row of figures: each pair with its ratio, and the second picker's pick with the ratio of the proved pick to it.
 fn row(page: &mut String, name: &str, figures: [f64; JOBS.len()], places: usize) {
-    let [read, rust_read, pick, plain_pick, check, rust_check, second_pick] = figures;
+    let [
+        read,
+        rust_read,
+        pick,
+        plain_pick,
+        check,
+        rust_check,
+        second_pick,
+    ] = figures;
     let _ = write!(page, "| {name} |");
     for (proved, rust) in [(read, rust_read), (pick, plain_pick), (check, rust_check)] {
         let _ = if proved.is_finite() {
@@ -197,21 +205,18 @@ fn row(page: &mut String, name: &str, figures: [f64; JOBS.len()], places: usize)
 }
 
 fn stack_lines(page: &mut String) {
-    let least =
-        |kind| stack::least(kind).map_or("more than 1 MiB".to_string(), |bytes| bytes.to_string());
     let _ = write!(
         page,
         "\n## Stack
 
-Bytes, to a page of 4,096: the smallest thread stack on which the proved calls end, less what a thread needs by itself, which a frame of known length
-tells. A run on a smaller stack is ended by a signal. The deepest searches go through 32 modules, each of which needs the next.
+Bytes: how far down the stack a proved call writes, seen by the paint that is gone of the bytes below its caller. The deepest searches go through 32 modules, each of which needs the next.
 
 | calls | stack |\n|---|---|
 | picks without a search: a root alone, refused texts, a text that is too long | {} |
 | picks with the deepest searches, with and without a valid selection, and with two catalogues of each set | {} |
 | checks of a sheet of 480 lines over the same catalogues | {} |\n",
-        least("flat"),
-        least("deep"),
-        least("check")
+        stack::most("flat"),
+        stack::most("deep"),
+        stack::most("check")
     );
 }

@@ -1,5 +1,7 @@
-//! The archive's calls, as include/towerbasin.h declares them.
+//! The archive's calls, as include/towerbasin.h declares them, and the stack that a call takes.
 #![allow(unsafe_code)]
+
+use std::hint::black_box;
 
 unsafe extern "C" {
     fn towerbasin_pick(
@@ -92,4 +94,29 @@ pub fn check(text: &[u8], sheet: &[u8], work: &mut [u8]) -> Answer {
         )
     };
     Answer::unpack(packed)
+}
+
+/// Bytes of stack that are painted before a call.
+const PAINTED: usize = 256 * 1_024;
+/// What an untouched byte holds.
+const PAINT: u8 = 0xA5;
+/// Bytes next to the painting function's own frame, which stay as they are.
+const NEAR: usize = 512;
+
+/// How many bytes of stack a call writes on, counted from its caller's frame; no more than 256 KB are looked at. The thread has 1 MiB of stack at least.
+#[inline(never)]
+pub fn depth(call: impl FnOnce()) -> usize {
+    let here = black_box(0_u8);
+    let top = (&raw const here) as usize;
+    for below in NEAR..PAINTED {
+        // SAFETY: the stack reaches further down than this, and below this frame nothing of it is in use.
+        unsafe { ((top - below) as *mut u8).write_volatile(PAINT) };
+    }
+    call();
+    let touched = |below: &usize| {
+        // SAFETY: as above; the byte was written before.
+        let byte = unsafe { ((top - below) as *const u8).read_volatile() };
+        byte != PAINT
+    };
+    (NEAR..PAINTED).rev().find(touched).unwrap_or(NEAR)
 }

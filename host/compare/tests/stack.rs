@@ -2,8 +2,8 @@
 
 use compare::proved;
 use families::{Draft, DraftNeed, largest};
-use second::Version;
 use second::calls::{SELECTION_AREA, SHEET_AREA, WORK_AREA};
+use second::{SheetLine, Version, sheet_text};
 use std::thread;
 
 /// 64 KB for the call.
@@ -38,4 +38,34 @@ fn a_call_needs_less_than_64_kb() {
     let small = thread::Builder::new().stack_size(CALL + THREAD);
     let answers = small.spawn(calls).expect("a thread starts").join();
     assert_eq!(answers.expect("the calls end"), (0, 2));
+}
+
+/// A frame that is larger than the page below the stack could pass over it unseen, so how far down the calls write is looked at as well.
+#[test]
+fn a_call_writes_on_less_than_64_kb() {
+    let texts = [chain(), largest(0)];
+    let sheet = sheet_text(&[SheetLine::Need(0); 480]);
+    let calls = move || {
+        let mut areas = [
+            vec![0; SELECTION_AREA],
+            vec![0; SHEET_AREA],
+            vec![0; WORK_AREA],
+        ];
+        let [selection, written, work] = &mut areas;
+        texts.map(|text| {
+            let picking = proved::depth(|| {
+                proved::pick(&text, selection, written, work, 480);
+            });
+            let checking = proved::depth(|| {
+                proved::check(&text, &sheet, work);
+            });
+            picking.max(checking)
+        })
+    };
+    let large = thread::Builder::new().stack_size(16 * CALL);
+    let depths = large.spawn(calls).expect("a thread starts").join();
+    let [chained, largest] = depths.expect("the calls end");
+    // The tables alone take 17,500 bytes.
+    assert!((17_500..CALL).contains(&chained), "{chained}");
+    assert!((17_500..CALL).contains(&largest), "{largest}");
 }
