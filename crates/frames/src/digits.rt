@@ -2,7 +2,8 @@
 ghost use Rattle.std.specs.Prelude.{◌≡◌};
 ghost use Rattle.frames.specs.Digits.{digit_in, pair_at};
 
-// What stands at a place of a text: a pair of digits, the end of a line, or something that can't stand there.
+// What stands at a place of a text: a pair of digits, the end of a line, or something that can't stand there. It has three cases, so it is neither an
+// Option nor a Result.
 #[derive(Clone, Copy)]
 pub enum Pair {
     Byte(u8),

@@ -7,7 +7,7 @@ use frames::kinds::Kind;
 use frames::numbers::ModuleNo;
 use frames::written;
 
-// How many lines stand in the work area, where they end, and whether one had no room.
+// How many lines stand in the work area, where they end, and whether one had no room: then the two numbers stay what they were, and are still told.
 #[derive(Clone, Copy)]
 pub struct Noted {
     pub end: usize,

@@ -30,7 +30,7 @@ pub const WORK_LEAST: usize = 65536;
 // The most lines of a sheet.
 pub const MOST_LINES: u16 = 480;
 
-// The answer: a number of the rules' table (0: a selection is written), the line told, and the length of the text that is written.
+// The answer, in numbers as C gets it: a number of the rules' table (0: a selection is written), the line told, and the length of the text that is written.
 #[derive(Clone, Copy)]
 pub struct Picked {
     pub number: u8,
@@ -38,7 +38,7 @@ pub struct Picked {
     pub size: u32,
 }
 
-// The checker's answer: a number of the rules' table (0: the sheet is accepted), the line told, and the text at fault: 0 neither, 1 the catalogue, 2 the sheet.
+// The checker's answer, in numbers too: a number of the rules' table (0: the sheet is accepted), the line told, and the text at fault: 0 neither, 1 the catalogue, 2 the sheet.
 #[derive(Clone, Copy)]
 pub struct Checked {
     pub number: u8,

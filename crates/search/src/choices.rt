@@ -1,4 +1,5 @@
-// The record of choices: for each module 0, or one more than the place of the version that is chosen; and the module to choose next.
+// The record of choices: for each module 0, or one more than the place of the version that is chosen, as the rules' selections have it; and the module to
+// choose next.
 ghost use Rattle.std.specs.Prelude.{◌≡◌, suc, ◌<◌, replicate, set};
 ghost use Rattle.search.specs.Choosing.{choices};
 ghost use Rattle.moves.specs.Wanted.{wanted_in};

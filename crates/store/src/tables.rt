@@ -12,7 +12,7 @@ use frames::numbers::{ModuleNo, Place, Version};
 // The mark of a version that is not there.
 pub const UNUSED: u16 = 0;
 
-// Versions by place: number, owner, first need, and a mark: unused, or one more than its needs. Modules: the place of the first version, and how many.
+// Arrays side by side, as the checker is lent lists of any lengths. Versions by place: number, owner, first need, and a mark: unused, or one more than its needs. Modules: the place of the first version, and how many.
 // Needs by number: the version's place, the target, and the range.
 #[derive(Drop)]
 pub struct Tables {
