@@ -1,5 +1,5 @@
 -- The lines of a sheet that a search leaves in the work area, as text, one behind the other. Assumes nothing: these are definitions.
-use Rattle.std.specs.Prelude.{Bool, true, false, ◌||◌, cond, List, [], ◌∷◌, ℕ, ◌+◌, ◌*◌, ◌-◌, ◌/◌, ◌%◌, ltb, leb, length}
+use Rattle.std.specs.Prelude.{◌≡◌, Bool, true, false, ◌||◌, cond, List, [], ◌∷◌, ℕ, ◌+◌, ◌*◌, ◌-◌, ◌/◌, ◌%◌, ltb, leb, length}
 use Rattle.std.proofs.lemmas.List.Edits.{sets}
 use Rattle.rules.specs.Frames.{frame_text}
 use Rattle.rules.specs.Sheet.{Entry, cites, resolves}
@@ -20,6 +20,12 @@ sheet a n = record { area = a; noted = n }
 -- what the code keeps of them
 abbrev pub sheet_of : Kept.Sheet → Sheet
 sheet_of s = sheet s.area.now s.noted
+
+-- what a function that is lent a sheet leaves: the same area and allowance, and the area written so far
+pub record Leaves (old new : Kept.Sheet) (s : Sheet) : Type 0 where
+  pub same : new.area.ghost_name ≡ old.area.ghost_name
+  pub allowance : new.allowance ≡ old.allowance
+  pub sheet : sheet_of new ≡ s
 
 -- no line yet
 abbrev pub fresh : (area : List ℕ) → Sheet

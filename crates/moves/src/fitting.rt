@@ -2,7 +2,7 @@
 ghost use Rattle.std.specs.Prelude.{◌≡◌, suc};
 ghost use Rattle.rules.specs.Sheet.{cites};
 ghost use Rattle.moves.specs.Fitting.{fits_in};
-ghost use Rattle.moves.specs.Noting.{sheet_of, note_in, entry_bytes};
+ghost use Rattle.moves.specs.Noting.{sheet_of, Leaves, note_in, entry_bytes};
 ghost use Rattle.moves.specs.Scan.{number_of, scan_in, over_in};
 
 use crate::noting::Sheet;
@@ -35,10 +35,8 @@ pub fn cite_bar(
     m: ModuleNo,
     p: Place,
 )
-    ensures same { sheet.new.area.ghost_name ≡ sheet.old.area.ghost_name }
-    ensures allowance { sheet.new.allowance ≡ sheet.old.allowance }
-    ensures sheet { sheet_of sheet.new ≡ note_in sheet.old.allowance
-        (entry_bytes (cites (number_of (over_in (scan_in t.now chosen.now m.0 (suc p.0)) 0 modules)))) (sheet_of sheet.old) }
+    ensures { Leaves sheet.old sheet.new (note_in sheet.old.allowance
+        (entry_bytes (cites (number_of (over_in (scan_in t.now chosen.now m.0 (suc p.0)) 0 modules)))) (sheet_of sheet.old)) }
 {
     if sheet.noted.over {
         return;

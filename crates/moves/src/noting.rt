@@ -1,7 +1,7 @@
 // The lines of a sheet, noted in the work area while it isn't known yet whether there is a selection.
 ghost use Rattle.std.specs.Prelude.{◌≡◌, ◌-◌, ◌≤◌, length};
 ghost use Rattle.rules.specs.Sheet.{cites, resolves};
-ghost use Rattle.moves.specs.Noting.{sheet_of, fresh, note_in, entry_bytes};
+ghost use Rattle.moves.specs.Noting.{sheet_of, fresh, Leaves, note_in, entry_bytes};
 
 use frames::kinds::Kind;
 use frames::numbers::ModuleNo;
@@ -47,9 +47,7 @@ impl<'a> Sheet<'a> {
     // A frame's line is noted, or it is told that it has no room.
     fn note(&mut self, bytes: &[u8])
         requires { length bytes.now ≤ 6 }
-        ensures same { self.new.area.ghost_name ≡ self.old.area.ghost_name }
-        ensures allowance { self.new.allowance ≡ self.old.allowance }
-        ensures sheet { sheet_of self.new ≡ note_in self.old.allowance bytes.now (sheet_of self.old) }
+        ensures { Leaves self.old self.new (note_in self.old.allowance bytes.now (sheet_of self.old)) }
     {
         let n = self.noted;
         let room = self.area.len().saturating_sub(n.end);
@@ -68,9 +66,7 @@ impl<'a> Sheet<'a> {
 
     // A need line.
     pub fn cite(&mut self, k: u32)
-        ensures same { self.new.area.ghost_name ≡ self.old.area.ghost_name }
-        ensures allowance { self.new.allowance ≡ self.old.allowance }
-        ensures sheet { sheet_of self.new ≡ note_in self.old.allowance (entry_bytes (cites k)) (sheet_of self.old) }
+        ensures { Leaves self.old self.new (note_in self.old.allowance (entry_bytes (cites k)) (sheet_of self.old)) }
     {
         let [_, _, high, low] = k.to_be_bytes();
         self.note(&[Kind::NeedLine as u8, high, low]);
@@ -78,9 +74,7 @@ impl<'a> Sheet<'a> {
 
     // A resolved line, from two lines at a module.
     pub fn resolve(&mut self, a: u16, b: u16, m: ModuleNo)
-        ensures same { self.new.area.ghost_name ≡ self.old.area.ghost_name }
-        ensures allowance { self.new.allowance ≡ self.old.allowance }
-        ensures sheet { sheet_of self.new ≡ note_in self.old.allowance (entry_bytes (resolves a b m.0)) (sheet_of self.old) }
+        ensures { Leaves self.old self.new (note_in self.old.allowance (entry_bytes (resolves a b m.0)) (sheet_of self.old)) }
     {
         let [a_high, a_low] = a.to_be_bytes();
         let [b_high, b_low] = b.to_be_bytes();

@@ -1,6 +1,6 @@
 // A whole search over the tables of a catalogue, from the root on.
 ghost use Rattle.std.specs.Prelude.{◌≡◌, ◌<◌, get_or};
-ghost use Rattle.moves.specs.Noting.{sheet_of};
+ghost use Rattle.moves.specs.Noting.{sheet_of, Leaves};
 ghost use Rattle.search.specs.Walking.{PlacesFit, moves_in, told, search_in};
 
 use crate::choices::Choices;
@@ -16,10 +16,8 @@ const ROOT: ModuleNo = ModuleNo(0);
 pub fn find(t: &Tables, modules: u16, sheet: &mut Sheet) -> Result<Choices, Choices>
     requires places { PlacesFit t.now }
     requires root { get_or t.now.firsts 0 0 < 65535 }
-    ensures same { sheet.new.area.ghost_name ≡ sheet.old.area.ghost_name }
-    ensures allowance { sheet.new.allowance ≡ sheet.old.allowance }
     ensures told { result ≡ told (search_in (moves_in t.now modules) modules sheet.old.allowance (get_or t.now.firsts 0 0) (sheet_of sheet.old)) }
-    ensures sheet { sheet_of sheet.new ≡ (search_in (moves_in t.now modules) modules sheet.old.allowance (get_or t.now.firsts 0 0) (sheet_of sheet.old)).sheet }
+    ensures sheet { Leaves sheet.old sheet.new ((search_in (moves_in t.now modules) modules sheet.old.allowance (get_or t.now.firsts 0 0) (sheet_of sheet.old)).sheet) }
 {
     let versions = t.versions(ROOT);
     let root = Choices::none().choose(ROOT, Place(versions.first));

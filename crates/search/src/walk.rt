@@ -1,6 +1,6 @@
 // The backtracking search: from a place to its trials, and from a trial to the next place.
 ghost use Rattle.std.specs.Prelude.{◌≡◌, ◌<◌};
-ghost use Rattle.moves.specs.Noting.{sheet_of};
+ghost use Rattle.moves.specs.Noting.{sheet_of, Leaves};
 ghost use Rattle.search.specs.Walking.{PlacesFit, moves_in, told, try_walk, walk_in};
 
 use crate::choices::Choices;
@@ -24,12 +24,10 @@ pub fn trial(
 ) -> Result<Choices, Choices>
     requires places { PlacesFit t.now }
     requires place { p.0 < 65535 }
-    ensures same { sheet.new.area.ghost_name ≡ sheet.old.area.ghost_name }
-    ensures allowance { sheet.new.allowance ≡ sheet.old.allowance }
     ensures told { result ≡ told (try_walk (moves_in t.now modules) sheet.old.allowance
         (walk_in unsettled (moves_in t.now modules) sheet.old.allowance) w p.0 choices (sheet_of sheet.old)) }
-    ensures sheet { sheet_of sheet.new ≡ (try_walk (moves_in t.now modules) sheet.old.allowance
-        (walk_in unsettled (moves_in t.now modules) sheet.old.allowance) w p.0 choices (sheet_of sheet.old)).sheet }
+    ensures sheet { Leaves sheet.old sheet.new ((try_walk (moves_in t.now modules) sheet.old.allowance
+        (walk_in unsettled (moves_in t.now modules) sheet.old.allowance) w p.0 choices (sheet_of sheet.old)).sheet) }
 {
     let m = w.owner;
     let fits = fitting::fits(t, &choices.chosen, w, p);
@@ -54,10 +52,8 @@ pub fn place(
     sheet: &mut Sheet,
 ) -> Result<Choices, Choices>
     requires { PlacesFit t.now }
-    ensures same { sheet.new.area.ghost_name ≡ sheet.old.area.ghost_name }
-    ensures allowance { sheet.new.allowance ≡ sheet.old.allowance }
     ensures told { result ≡ told (walk_in unsettled (moves_in t.now modules) sheet.old.allowance choices (sheet_of sheet.old)) }
-    ensures sheet { sheet_of sheet.new ≡ (walk_in unsettled (moves_in t.now modules) sheet.old.allowance choices (sheet_of sheet.old)).sheet }
+    ensures sheet { Leaves sheet.old sheet.new ((walk_in unsettled (moves_in t.now modules) sheet.old.allowance choices (sheet_of sheet.old)).sheet) }
 {
     if unsettled == 0 {
         return Ok(choices);

@@ -27,29 +27,29 @@ returns-in-Ok c =
 pub returns-then-over : goal.returns-then-over
 returns-then-over c =
     let new = c.new-lines.ensures in
-    unsheeted (known c.requires c.in_default.ensures) new.sheet new.allowance c.in_default-find.ensures.told c.find.ensures.sheet c.if-over.true
+    unsheeted (known c.requires c.in_default.ensures) new.sheet new.allowance c.in_default-find.ensures.told c.find.ensures.sheet.sheet c.if-over.true
     c.answer-then-over.ensures
 
 pub write_sheet-size-requires-clause-has : goal.write_sheet-size-requires-clause-has
 write_sheet-size-requires-clause-has c =
     let new = c.new-lines.ensures in
-    lines_there (known c.requires c.in_default.ensures) new.sheet new.allowance c.in_default-find.ensures.told c.find.ensures.sheet c.if-over.false
+    lines_there (known c.requires c.in_default.ensures) new.sheet new.allowance c.in_default-find.ensures.told c.find.ensures.sheet.sheet c.if-over.false
 
 pub write_sheet-size-requires-clause-room : goal.write_sheet-size-requires-clause-room
 write_sheet-size-requires-clause-room c =
     let new = c.new-lines.ensures in
-    let short = lines_fit (known c.requires c.in_default.ensures) new.sheet new.allowance c.in_default-find.ensures.told c.find.ensures.sheet c.if-over.false in
+    let short = lines_fit (known c.requires c.in_default.ensures) new.sheet new.allowance c.in_default-find.ensures.told c.find.ensures.sheet.sheet c.if-over.false in
     omega (arith, short, c.requires.sheet_room)
 
 pub overflow_cast-size-2 : goal.overflow_cast-size-2
 overflow_cast-size-2 c =
     let new = c.new-lines.ensures in
-    let short = sheet_fits (known c.requires c.in_default.ensures) new.sheet new.allowance c.in_default-find.ensures.told c.find.ensures.sheet c.if-over.false in
+    let short = sheet_fits (known c.requires c.in_default.ensures) new.sheet new.allowance c.in_default-find.ensures.told c.find.ensures.sheet.sheet c.if-over.false in
     omega (arith, c.write_sheet-size.ensures.size, short)
 
 pub returns : goal.returns
 returns c =
     let new = c.new-lines.ensures in
     let written = c.write_sheet-size.ensures in
-    sheeted (known c.requires c.in_default.ensures) new.sheet new.allowance c.in_default-find.ensures.told c.find.ensures.sheet c.if-over.false
+    sheeted (known c.requires c.in_default.ensures) new.sheet new.allowance c.in_default-find.ensures.told c.find.ensures.sheet.sheet c.if-over.false
     written.size written.area c.answer-2.ensures
