@@ -1,5 +1,5 @@
 -- The reading of lines by a reader's code: what it stands for at the start of each line (`Under`), that a good line keeps it so (`line_good`), and what is
--- owed where the reading stops (`ends`, `wrong`, `line_refused`), and of the whole text (`too_long`, `whole`). Assumes nothing.
+-- owed where the reading stops (`ends`, `wrong`, `line_refused`), and of the whole text (`too_long`, `faulty_lines`, `good_lines`). Assumes nothing.
 use mathlib.Core.Path.{◌≡◌, refl, sym, ◌∙◌, ap, subst}
 use mathlib.Core.Logic.{◌≢◌}
 use mathlib.Core.Bool.{true, false, cond}
@@ -14,7 +14,7 @@ use Rattle.std.specs.declared.result.Result.TheVariants.{Ok, Err}
 use Rattle.rules.specs.Lines.{Fault, fault, fine, lines_of}
 use Rattle.rules.specs.Frames.{frame_of, Reader, bad, read_from, read_text, fault_of}
 use Rattle.frames.specs.Digits.{pair_at}
-use Rattle.frames.specs.Faults.{number_of}
+use Rattle.frames.specs.Faults.{number_of, end_fault}
 use Rattle.frames.specs.Texts.{read_on, reached_from, LineTaken, LinesTaken, TextRead}
 use Rattle.frames.specs.declared.digits.Pair.TheVariants.{LineFeed, Wrong}
 use Rattle.frames.specs.declared.faults.Fault as Told
@@ -23,7 +23,7 @@ use Rattle.frames.specs.declared.faults.Refusal.TheVariants.{Shape}
 use Rattle.frames.proofs.InLine.{InLine}
 use Rattle.frames.proofs.Judged.{fits_kept}
 use Rattle.frames.proofs.Taken.{some_number}
-use Rattle.frames.proofs.Steps.{AtLine, Stopped, Counted, line_begins, end_stops, wrong_stops, line_stops, line_goes_on}
+use Rattle.frames.proofs.Steps.{AtLine, Stopped, Counted, line_begins, end_stops, wrong_stops, line_stops, line_goes_on, stopped_fault}
 
 -- the line of an answer, and whether it has one
 line_in : Result ℕ Told.Fault → ℕ
@@ -100,19 +100,22 @@ module _ {K S : Type 0} (r : Reader K) (stands : S → K → Type 0) where
 
 -- WHAT IS TOLD behind the last line, by the reader's own tests
 module _ {K : Type 0} (r : Reader K) (i : ℕ) (v : K) where
-  pub not_ended : r.is_ended v ≡ false → fault 5 i ≡ fault_of (read_on r v (Ok i))
-  unfolding read_from
+  abbrev Told_by : Fault → Type 0
+  Told_by x = x ≡ end_fault 0 i (r.is_ended v) (r.last v)
+
+  pub not_ended : r.is_ended v ≡ false → Told_by (fault 5 i)
+  unfolding end_fault
   not_ended e = rw e
 
-  pub last_faulty : {n : ℕ} → r.is_ended v ≡ true → n ≡ r.last v → n ≢ 0 → fault n (i - 1) ≡ fault_of (read_on r v (Ok i))
-  unfolding read_from
+  pub last_faulty : {n : ℕ} → r.is_ended v ≡ true → n ≡ r.last v → n ≢ 0 → Told_by (fault n (i - 1))
+  unfolding end_fault
   last_faulty {n} e same some = rw (e, ne_eqb (r.last v) 0 (λ z. some (same ∙ z))) (ap (λ (k : ℕ). fault k (i - 1)) same)
 
-  pub all_good : r.is_ended v ≡ true → r.last v ≡ 0 → fine ≡ fault_of (read_on r v (Ok i))
-  unfolding read_from
+  pub all_good : r.is_ended v ≡ true → r.last v ≡ 0 → Told_by fine
+  unfolding end_fault
   all_good e same = rw (e, same)
 
--- THE WHOLE TEXT
+-- THE WHOLE TEXT: one that is too long, one with a fault in its lines, and one without
 module _ {K S : Type 0} (r : Reader K) (stands : S → K → Type 0) {most : ℕ} {text : List ℕ} {u : K} {b : S} where
   pub too_long : most < length text → stands b u → TextRead r stands most u text b (fault 1 0)
   unfolding read_text
@@ -122,11 +125,19 @@ module _ {K S : Type 0} (r : Reader K) (stands : S → K → Type 0) {most : ℕ
         reached = rw (lt-ltb most (length text) h) z;
       }
 
-  pub whole : {x : Result ℕ Told.Fault} {y : Fault} → length text ≤ most → LinesTaken r stands u text b x →
-      y ≡ fault_of (read_on r (reached_from r u (lines_of text)) x) → TextRead r stands most u text b y
+  whole : {x : Result ℕ Told.Fault} {y : Fault} → length text ≤ most → LinesTaken r stands u text b x →
+      y ≡ fault_of (read_from r 1 u (lines_of text)) → TextRead r stands most u text b y
   unfolding read_text
   whole h t same =
       record {
-        fault_is = rw (le-ltb most (length text) h) (same ∙ ap fault_of (sym t.outcome));
+        fault_is = rw (le-ltb most (length text) h) same;
         reached = rw (le-ltb most (length text) h) t.reached;
       }
+
+  pub faulty_lines : {x : Told.Fault} → length text ≤ most → LinesTaken r stands u text b (Err x) →
+      TextRead r stands most u text b (fault (number_of x.refusal) x.line)
+  faulty_lines h t = whole h t (ap fault_of (sym t.outcome))
+
+  pub good_lines : {i : ℕ} {y : Fault} → length text ≤ most → LinesTaken r stands u text b (Ok i) →
+      Told_by r i (reached_from r u (lines_of text)) y → TextRead r stands most u text b y
+  good_lines h t same = whole h t (same ∙ stopped_fault r (reached_from r u (lines_of text)) (record { reach = refl; outcome = t.outcome }))

@@ -3,19 +3,19 @@
 -- told is the text's fault (`stopped_fault`). Assumes nothing.
 use mathlib.Core.Path.{◌≡◌, refl, sym, ◌∙◌, ap}
 use mathlib.Core.Logic.{◌≢◌}
-use mathlib.Core.Bool.{true, cond}
+use mathlib.Core.Bool.{Bool, true, false, cond}
 use mathlib.Core.List.{List, [], ◌∷◌}
-use Prim.Native.Nat.{ℕ, suc, ◌+◌, ◌≤◌}
+use Prim.Native.Nat.{ℕ, suc, ◌+◌, ◌-◌, ◌≤◌}
 use native.Mathlib.Omega.{arith}
 use native.Mathlib.Numerals.{add-one}
 use lib.Dec.{eqb}
 use lib.ListN.{length, drop, drop_of_length-le}
 use borrow.Author.Tests.{ne_eqb}
-use Rattle.rules.specs.Lines.{fault, Line, line, lines_of}
-use Rattle.rules.specs.Frames.{frame_of, byte_at, Reader, bad, line_fault, read_from}
+use Rattle.rules.specs.Lines.{Fault, fault, fine, Line, line, lines_of}
+use Rattle.rules.specs.Frames.{frame_of, byte_at, Reader, Read, bad, got, line_fault, read_from, fault_of}
 use Rattle.rules.proofs.Readers.{good_line}
 use Rattle.frames.specs.Digits.{pair_at}
-use Rattle.frames.specs.Faults.{line_fault_of}
+use Rattle.frames.specs.Faults.{line_fault_of, end_fault}
 use Rattle.frames.specs.Kinds.{row_for}
 use Rattle.frames.specs.Texts.{reached_from}
 use Rattle.frames.specs.declared.digits.Pair.TheVariants.{LineFeed, Wrong}
@@ -131,3 +131,24 @@ module _ {S : Type 0} (r : Reader S) (begin : S) where
 
               reached : reached_from r u (lines_of (drop at text)) ≡ reached_from r next (lines_of (drop (to + 1) text))
               reached = rw (lines, good)
+
+-- WHAT IS TOLD then is the text's fault, with the reader's own tests after the last line
+module _ {S : Type 0} (r : Reader S) (u : S) where
+  -- the three tests: no fault in the lines, an end, nothing wrong at the end's line
+  tests : (n i last : ℕ) → (good ended fits : Bool) → Fault
+  tests n i k a b z = cond a (cond b (cond z fine (fault k (i - 1))) (fault 5 i)) (fault n i)
+
+  outcome : (n i last : ℕ) → (good ended fits : Bool) → Read S
+  outcome n i k a b z = cond a (cond b (cond z (got u) (bad (fault k (i - 1)))) (bad (fault 5 i))) (bad (fault n i))
+
+  by_tests : (n i k : ℕ) (a b z : Bool) → tests n i k a b z ≡ fault_of (outcome n i k a b z)
+  unfolding tests outcome
+  by_tests n i k false b z = refl
+  by_tests n i k true false z = refl
+  by_tests n i k true true false = refl
+  by_tests n i k true true true = refl
+
+  pub stopped_fault : {begin : S} {text : List ℕ} {n i : ℕ} → Stopped r begin text n i u →
+      end_fault n i (r.is_ended u) (r.last u) ≡ fault_of (read_from r 1 begin (lines_of text))
+  unfolding end_fault tests outcome read_from
+  stopped_fault {n = n} {i = i} s = by_tests n i (r.last u) (eqb n 0) (r.is_ended u) (eqb (r.last u) 0) ∙ ap fault_of (sym s.outcome)

@@ -1,5 +1,5 @@
 -- The numbers of refusals, and the fault of a line as the code tells it. Assumes nothing: these are definitions.
-use Rattle.std.specs.Prelude.{ℕ, ◌*◌, leb, eqb}
+use Rattle.std.specs.Prelude.{Bool, cond, ℕ, ◌*◌, ◌-◌, leb, eqb}
 use Rattle.std.specs.declared.result.Result.{Result}
 use Rattle.std.specs.declared.result.Result.TheVariants.{Ok, Err}
 use Rattle.rules.specs.Frames as Rules
@@ -34,3 +34,7 @@ fault_told (Err f) = Texts.fault (number_of f.refusal) f.line
 -- 2, 3 and 4 by the bytes of a line and their sum, and then what is wrong with the frame
 unfoldable pub line_fault_of : (bytes sum : ℕ) → Rules.Kind → (frame : ℕ) → ℕ
 line_fault_of n x r y = or_else (unless (leb 2 n) 2) (or_else (unless (eqb x 0) 3) (or_else (unless (eqb r.digits (n * 2)) 4) y))
+
+-- the fault told behind the last line: the one found in the lines; else 5 where there is no end, and what is wrong at the end's line
+unfoldable pub end_fault : (number line : ℕ) → (is_ended : Bool) → (last : ℕ) → Texts.Fault
+end_fault n i z k = cond (eqb n 0) (cond z (cond (eqb k 0) fine (Texts.fault k (i - 1))) (Texts.fault 5 i)) (Texts.fault n i)

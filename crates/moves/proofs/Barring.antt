@@ -40,10 +40,10 @@ first_agree {A} f g (x ∷ xs) h =
     ap₂ (λ (b : Bool) (r : Rules.Option A). cond b (some x) r) (h x (here refl)) (first_agree f g xs (λ y m. h y (there m)))
 
 -- the first hit of a run of numbers
-first_hit : (f : ℕ → Bool) (i n : ℕ) → first_in f i n ≡ hit_of (first_of f (up_from i n))
+first_number : (f : ℕ → Bool) (i n : ℕ) → first_in f i n ≡ hit_of (first_of f (up_from i n))
 unfolding first_in first_of up_from
-first_hit f i zero = refl
-first_hit f i (suc n) = go (f i) (first_of f (up_from (suc i) n)) (first_hit f (suc i) n)
+first_number f i zero = refl
+first_number f i (suc n) = go (f i) (first_of f (up_from (suc i) n)) (first_number f (suc i) n)
   where
     go : {x : Option ℕ} (b : Bool) (r : Rules.Option ℕ) → x ≡ hit_of r → cond b (Some i) x ≡ hit_of (cond b (some i) r)
     go true r e = refl
@@ -62,12 +62,12 @@ module _ (f : ℕ → Bool) where
       go false r s z e = e
 
   -- the first hit of a run of scans is that of their lists side by side
-  over_hits : (of : ℕ → List ℕ) (g : ℕ → Option ℕ) (i n : ℕ) → ((k : ℕ) → Mem k (up_from i n) → g k ≡ hit_of (first_of f (of k))) →
+  over_number : (of : ℕ → List ℕ) (g : ℕ → Option ℕ) (i n : ℕ) → ((k : ℕ) → Mem k (up_from i n) → g k ≡ hit_of (first_of f (of k))) →
       over_in g i n ≡ hit_of (first_of f (flat_map of (up_from i n)))
   unfolding first_of over_in up_from flat_map
-  over_hits of g i zero e = refl
-  over_hits of g i (suc n) e =
-      ap₂ option_or (e i (here refl)) (over_hits of g (suc i) n (λ k m. e k (there m))) ∙ sym (first_append (of i) (flat_map of (up_from (suc i) n)))
+  over_number of g i zero e = refl
+  over_number of g i (suc n) e =
+      ap₂ option_or (e i (here refl)) (over_number of g (suc i) n (λ k m. e k (there m))) ∙ sym (first_append (of i) (flat_map of (up_from (suc i) n)))
 
 -- WHAT THE TABLES TELL
 module _ (t : Tables) (c : Catalogue) (holds : Holds t c) where
@@ -94,7 +94,7 @@ module _ (t : Tables) (c : Catalogue) (holds : Holds t c) where
   pub state_hit : (f : ℕ → Bool) (x : ℕ) → scan_state t f x ≡ hit_of (first_of f (needs_at c x))
   unfolding first_of
   state_hit f zero = refl
-  state_hit f (suc j) = first_hit f _ _ ∙ ap (λ (l : List ℕ). hit_of (first_of f l)) (sym (holds.needs j))
+  state_hit f (suc j) = first_number f _ _ ∙ ap (λ (l : List ℕ). hit_of (first_of f l)) (sym (holds.needs j))
 
 -- THE LAW: module m is tried at place i, and every chosen version is one of its module
 module _
@@ -159,4 +159,4 @@ module _
         hit_of (barring c s m i)
     unfolding barring asked
     barring_law =
-        over_hits (bars c s m i) (λ (k : ℕ). needs_at c (states k)) _ 0 c.modules (λ k q. scan_hit k (below_mem q))
+        over_number (bars c s m i) (λ (k : ℕ). needs_at c (states k)) _ 0 c.modules (λ k q. scan_hit k (below_mem q))
