@@ -1,7 +1,7 @@
 -- The loop over lines, for every reader: what holds of the reading at the start of each line (`AtLine`), that a good line keeps it (`line_goes_on`), and
 -- how the reading stops at a faulty line (`line_stops`), at something wrong in it (`wrong_stops`) or at the end of the text (`end_stops`). What is then
 -- told is the text's fault (`stopped_fault`). Assumes nothing.
-use mathlib.Core.Path.{◌≡◌, refl, sym, ◌∙◌, ap}
+use mathlib.Core.Path.{◌≡◌, sym, ◌∙◌, ap}
 use mathlib.Core.Logic.{◌≢◌}
 use mathlib.Core.Bool.{true, cond}
 use mathlib.Core.List.{List, [], ◌∷◌}
@@ -13,7 +13,6 @@ use lib.ListN.{length, drop, drop_of_length-le}
 use borrow.Author.Tests.{ne_eqb}
 use Rattle.rules.specs.Lines.{fault, Line, line, lines_of}
 use Rattle.rules.specs.Frames.{frame_of, byte_at, Reader, bad, line_fault, read_from}
-use Rattle.rules.proofs.Readers.{good_line}
 use Rattle.frames.specs.Digits.{pair_at}
 use Rattle.frames.specs.Faults.{line_fault_of}
 use Rattle.frames.specs.Kinds.{row_for}
@@ -22,7 +21,7 @@ use Rattle.frames.specs.declared.digits.Pair.TheVariants.{LineFeed, Wrong}
 use Rattle.frames.proofs.Lines.{misshapen_read, misshapen_reached}
 use Rattle.frames.proofs.InLine.{InLine, line_feed_lem, line_wrong}
 use Rattle.frames.specs.Texts.{Kept}
-use Rattle.frames.proofs.Judged.{line_judged, good_kept}
+use Rattle.frames.proofs.Judged.{line_judged}
 
 -- LINES ARE COUNTED from 1, and each has a character at least
 pub record Counted (text : List ℕ) (at number : ℕ) : Type 0 where
