@@ -1,22 +1,20 @@
 -- Where the catalogue reads well, what is told of a judged sheet is what a check owes (`sheet_told`). Assumes nothing.
 use mathlib.Core.Path.{◌≡◌, sym, ◌∙◌, ap, subst₂}
-use mathlib.Core.Logic.{◌≢◌}
 use mathlib.Core.List.{List}
-use Prim.Native.Nat.{ℕ, ◌≤◌, ◌<◌}
+use Prim.Native.Nat.{ℕ, ◌≤◌}
 use native.Mathlib.Omega.{arith}
 use lib.ListN.{length}
-use borrow.Author.Tests.{le-leb, lt-leb, ne_eqb}
-use Rattle.rules.specs.Lines.{Fault, fault, fine}
-use Rattle.rules.specs.Frames.{catalogues, sheets}
-use Rattle.rules.specs.Catalogue.{Catalogue, limits, text_fault, catalogue_of}
-use Rattle.rules.proofs.Lists.{cond_true, cond_false}
+use Rattle.rules.specs.Lines.{Fault, fine}
+use Rattle.rules.specs.Frames.{sheets}
+use Rattle.rules.specs.Catalogue.{Catalogue, limits, catalogue_of}
+use Rattle.rules.proofs.Lists.{cond_true}
 use Rattle.store.specs.Lent.{Lent, lent_by}
 use Rattle.catalogue.specs.declared.reading.Catalogue as Code
 use Rattle.catalogue.specs.Reading.{CatalogueRead}
 use Rattle.sheets.specs.Reading.{Given, SheetJudged}
 use Rattle.sheets.proofs.Judging.{read_given}
-use Rattle.picker.specs.Entry.{work_least, zeroed, is_fine}
-use Rattle.picker.specs.Checking.{checked, checked_by, check_on, check_of, work_after}
+use Rattle.picker.specs.Entry.{work_least, is_fine}
+use Rattle.picker.specs.Checking.{checked_by, check_on}
 use Rattle.picker.specs.declared.Checked.{Checked}
 use Rattle.picker.proofs.Readings.{ReadWell, read_fine, read_well}
 
