@@ -11,12 +11,13 @@ use Rattle.rules.specs.Catalogue.{Reading, places_of, limits}
 use Rattle.frames.specs.Kinds.{row_for}
 use Rattle.frames.specs.Texts.{Kept, FrameTaken}
 use Rattle.frames.proofs.Judged.{row_kind}
+use Rattle.frames.proofs.Taken.{frame_refused, frame_kept}
 use Rattle.store.specs.declared.frame.Last.{Last}
-use Rattle.store.specs.Frame.{Fields, State, state_of, state_told, last_of, fields_at, fields_by, frame_fault, after}
+use Rattle.store.specs.Frame.{Fields, State, state_of, state_told, last_of, fields_by, frame_fault, after}
 use Rattle.store.specs.declared.tables.Tables.{Tables}
 use Rattle.store.specs.Tables.{kept, last_in}
 use Rattle.store.specs.Tidy.{Reads}
-use Rattle.store.proofs.Faults.{fields_in, fault_law, after_law, bytes_fields}
+use Rattle.store.proofs.Faults.{fields_in, fault_law, after_law}
 use Rattle.store.proofs.Kept.{reads_step, count_law, last_law}
 use Rattle.catalogue.specs.declared.reading.Catalogue.{Catalogue}
 use Rattle.catalogue.specs.Reading.{reader, StandsFor}
@@ -24,14 +25,6 @@ use Rattle.catalogue.specs.Reading.{reader, StandsFor}
 -- the fields that the code reads of the bytes it has kept, by the row of their kind
 abbrev pub fields_had : (bytes : List ℕ) → Fields
 fields_had f = fields_by (row_for catalogues (byte_at f 0)) f
-
-fields_same : {bytes frame : List ℕ} → Kept catalogues bytes frame → fields_had bytes ≡ fields_in frame
-fields_same {bytes} {frame} k =
-    ap by_kind (row_kind kinds catalogues (byte_at bytes 0)) ∙ bytes_fields frame bytes k.alike _ _ _ ∙
-    ap (λ (n : ℕ). fields_at (row_for catalogues n).first (row_for catalogues n).second (row_for catalogues n).third frame) (k.alike 0)
-  where
-    by_kind : ℕ → Fields
-    by_kind n = let r = row_for catalogues (byte_at bytes 0) in fields_by (record { text = r.text; kind = n; digits = r.digits; first = r.first; second = r.second; third = r.third }) bytes
 
 -- WHAT IS GOT of a line's bytes and of the tables: the fields, the version last read, and how many versions the line's module has
 pub record Got (bytes : List ℕ) (s : State) (t : Tables) (f : Fields) (z : Last) (n : ℕ) : Type 0 where
@@ -46,7 +39,7 @@ all_got {bytes} e row a b = record { fields_are = e ∙ ap (λ (r : Rules.Kind).
 module _ {bytes : List ℕ} {s : State} {t : Tables} {f : Fields} {z : Last} {n : ℕ} (g : Got bytes s t f z n) {u : Reading} {frame : List ℕ}
     (told : s ≡ state_of u) (reads : Reads t u) (k : Kept catalogues bytes frame) where
   fields : f ≡ fields_in frame
-  fields = g.fields_are ∙ fields_same k
+  fields = rw g.fields_are (simp (k.alike, row_kind kinds catalogues))
 
   last : z ≡ last_of u.sofar
   last = g.last_is ∙ ap (λ (v : State). last_in t.values t.owners t.marks v.versions) told ∙ last_law reads.tidy
@@ -67,22 +60,13 @@ module _ {bytes : List ℕ} {s : State} {t : Tables} {f : Fields} {z : Last} {n 
 module _ {bytes : List ℕ} {old : Catalogue} {f : Fields} {z : Last} {n : ℕ} (g : Got bytes (state_told old.state) old.tables f z n) where
   -- a faulty frame changes nothing
   pub refused : {k : ℕ} → k ≢ 0 → k ≡ frame_fault limits (state_told old.state) z n f → FrameTaken reader StandsFor old old bytes k
-  refused {k} some e =
-      record {
-        number_is = λ u fr h kept. e ∙ fault_same g h.state h.reads kept;
-        goes_on = λ u fr h kept none. absurd (some none);
-        stays = λ u h none. h;
-      }
+  refused some e = frame_refused reader StandsFor (λ u fr h kept. e ∙ fault_same g h.state h.reads kept) some
 
   -- a good one is kept
   pub taken : {new : Catalogue} → 0 ≡ frame_fault limits (state_told old.state) z n f → state_told new.state ≡ after (state_told old.state) f →
       new.tables ≡ kept old.tables (state_told old.state) z n f → FrameTaken reader StandsFor old new bytes 0
-  taken {new} e state tables =
-      record {
-        number_is = λ u fr h kept. e ∙ fault_same g h.state h.reads kept;
-        goes_on = λ u fr h kept none. record {
-          state = state ∙ state_same g h.state h.reads kept;
-          reads = rw tables (reads_same g h.state h.reads kept (sym (fault_same g h.state h.reads kept) ∙ sym e));
-        };
-        stays = λ u h some. absurd (some refl);
-      }
+  taken e state tables =
+      frame_kept reader StandsFor (λ u fr h kept. e ∙ fault_same g h.state h.reads kept) refl (λ u fr h kept none. record {
+        state = state ∙ state_same g h.state h.reads kept;
+        reads = rw tables (reads_same g h.state h.reads kept none);
+      })

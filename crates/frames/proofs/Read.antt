@@ -23,7 +23,7 @@ use Rattle.frames.specs.declared.faults.Refusal.TheVariants.{Shape}
 use Rattle.frames.proofs.InLine.{InLine}
 use Rattle.frames.proofs.Judged.{fits_kept}
 use Rattle.frames.proofs.Taken.{some_number}
-use Rattle.frames.proofs.Steps.{AtLine, Stopped, Counted, line_begins, end_stops, wrong_stops, line_stops, line_goes_on, stopped_fault}
+use Rattle.frames.proofs.Steps.{AtLine, Stopped, Counted, end_stops, wrong_stops, line_stops, line_goes_on, stopped_fault}
 
 -- the line of an answer, and whether it has one
 line_in : Result ℕ Told.Fault → ℕ
@@ -42,13 +42,6 @@ module _ {K S : Type 0} (r : Reader K) (stands : S → K → Type 0) where
   -- whatever the code stood for when the text began, it now stands for the reading of the lines before this one
   abbrev pub Under : (text : List ℕ) → (at number : ℕ) → (begin now : S) → Type 0
   Under text at number a b = (u : K) → stands a u → (v : K) × AtLine r u text at number v × stands b v
-
-  pub begins : (text : List ℕ) (a : S) → Under text 0 1 a a
-  begins text a u h = (u, line_begins r u text, h)
-
-  -- it stands for something
-  pub some_reading : {text : List ℕ} {at number : ℕ} {a b : S} → Under text at number a b → (u : K) × stands a u → (v : K) × stands b v
-  some_reading h (u, z) = let (v, line, there) = h u z in (v, there)
 
   -- what is owed where the reading stops with a reading that the code stands for
   owed : {text : List ℕ} {b : S} (u v : K) (n i : ℕ) (x : Result ℕ Told.Fault) → Stopped r u text n i v → stands b v →

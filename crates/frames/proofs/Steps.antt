@@ -13,7 +13,6 @@ use lib.ListN.{length, drop, drop_of_length-le}
 use borrow.Author.Tests.{ne_eqb}
 use Rattle.rules.specs.Lines.{Fault, fault, fine, Line, line, lines_of}
 use Rattle.rules.specs.Frames.{frame_of, byte_at, Reader, Read, bad, got, line_fault, read_from, fault_of}
-use Rattle.rules.proofs.Readers.{good_line}
 use Rattle.frames.specs.Digits.{pair_at}
 use Rattle.frames.specs.Faults.{line_fault_of, end_fault}
 use Rattle.frames.specs.Kinds.{row_for}
@@ -22,16 +21,13 @@ use Rattle.frames.specs.declared.digits.Pair.TheVariants.{LineFeed, Wrong}
 use Rattle.frames.proofs.Lines.{misshapen_read, misshapen_reached}
 use Rattle.frames.proofs.InLine.{InLine, line_feed_lem, line_wrong}
 use Rattle.frames.specs.Texts.{Kept}
-use Rattle.frames.proofs.Judged.{line_judged, good_kept}
+use Rattle.frames.proofs.Judged.{line_judged}
 
 -- LINES ARE COUNTED from 1, and each has a character at least
 pub record Counted (text : List ℕ) (at number : ℕ) : Type 0 where
   pub within : at ≤ length text
   pub first : 1 ≤ number
   pub counted : number ≤ at + 1
-
-pub counted_start : (text : List ℕ) → Counted text 0 1
-counted_start text = record { within = omega arith; first = omega arith; counted = omega arith }
 
 pub counted_next : {text : List ℕ} {at number to : ℕ} {bytes : List ℕ} {size total : ℕ} → Counted text at number →
     InLine text at to bytes size total → pair_at text to ≡ LineFeed → Counted text (to + 1) (number + 1)
@@ -53,9 +49,6 @@ pub record Stopped {S : Type 0} (r : Reader S) (begin : S) (text : List ℕ) (nu
   pub outcome : read_from r 1 begin (lines_of text) ≡ cond (eqb number 0) (read_from r line u []) (bad (fault number line))
 
 module _ {S : Type 0} (r : Reader S) (begin : S) where
-  pub line_begins : (text : List ℕ) → AtLine r begin text 0 1 begin
-  line_begins text = record { rest = refl; reach = refl }
-
   module _ {text : List ℕ} {at number : ℕ} {u : S} (h : AtLine r begin text at number u) where
     -- the first line left is faulty
     stops : (n : ℕ) → n ≢ 0 → read_from r number u (lines_of (drop at text)) ≡ bad (fault n number) →
@@ -114,10 +107,6 @@ module _ {S : Type 0} (r : Reader S) (begin : S) where
         module _ (z : n ≡ 0) where
           good : line_fault r u whole ≡ 0
           good = sym same_fault ∙ z
-
-          pub line_good : Kept r.text bytes (frame_of q.digits) × (r.fault u (frame_of q.digits) ≡ 0)
-          unfolding whole
-          line_good = (good_kept r q u good, (good_line r u whole good).content)
 
           pub line_goes_on : AtLine r begin text (to + 1) (number + 1) (r.after u (frame_of q.digits))
           unfolding read_from reached_from whole

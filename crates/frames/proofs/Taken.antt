@@ -1,5 +1,5 @@
 -- What a line is judged by: the fault of its shape, its sum or its kind comes before that of its frame, and a line without these has its frame's
--- (`line_refused`, `line_taken`). Assumes nothing.
+-- (`line_refused`, `line_taken`); and what is owed of a faulty and of a good frame (`frame_refused`, `frame_kept`). Assumes nothing.
 use mathlib.Core.Path.{◌≡◌, refl, sym, ◌∙◌}
 use mathlib.Core.Logic.{◌≢◌}
 use mathlib.Core.Bool.{Bool, true, false}
@@ -14,7 +14,7 @@ use Rattle.frames.specs.Faults.{number_of, line_fault_of}
 use Rattle.frames.specs.declared.faults.Refusal.{Refusal}
 use Rattle.frames.specs.declared.faults.Refusal.TheVariants.{Length, Shape, Sum, Kind, Order, Content, Room, Root, Unrefuting}
 use Rattle.frames.specs.Kinds.{row_for}
-use Rattle.frames.specs.Texts.{FrameTaken, LineTaken}
+use Rattle.frames.specs.Texts.{Kept, FrameTaken, LineTaken}
 
 -- no refusal has the number 0
 pub some_number : (x : Refusal) → number_of x ≢ 0
@@ -71,3 +71,14 @@ module _ {K S : Type 0} (r : Reader K) (stands : S → K → Type 0) {old : S} {
         );
         stays = t.stays;
       }
+
+-- where the number told of a frame is the reader's, a faulty frame need change nothing, and a good one need lead to the reading after it
+module _ {K S : Type 0} (r : Reader K) (stands : S → K → Type 0) {old : S} {bytes : List ℕ} {n : ℕ}
+    (is : (u : K) (f : List ℕ) → stands old u → Kept r.text bytes f → n ≡ r.fault u f) where
+  pub frame_refused : n ≢ 0 → FrameTaken r stands old old bytes n
+  frame_refused some = record { number_is = is; goes_on = λ u f h kept none. absurd (some none); stays = λ u h z. h }
+
+  pub frame_kept : {new : S} → n ≡ 0 → ((u : K) (f : List ℕ) → stands old u → Kept r.text bytes f → r.fault u f ≡ 0 → stands new (r.after u f)) →
+      FrameTaken r stands old new bytes n
+  frame_kept none goes =
+      record { number_is = is; goes_on = λ u f h kept z. goes u f h kept (sym (is u f h kept) ∙ z); stays = λ u h some. absurd (some none) }

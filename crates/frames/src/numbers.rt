@@ -1,5 +1,5 @@
 // Module numbers, places and versions: numbers of different kinds, which can't be swapped by accident.
-ghost use Rattle.std.specs.Prelude.{◌≡◌, ltb};
+ghost use Rattle.std.specs.Prelude.{◌≡◌};
 ghost use Rattle.rules.specs.Catalogue.{is_within};
 ghost use Rattle.frames.specs.Numbers.{order_of};
 
@@ -28,12 +28,6 @@ impl Version {
         ensures { result ≡ order_of self.0 other.0 }
     {
         self.cmp(&other)
-    }
-
-    pub fn is_older(self, other: Version) -> bool
-        ensures { result ≡ ltb self.0 other.0 }
-    {
-        self < other
     }
 
     // In the range from low up to, not including, high.

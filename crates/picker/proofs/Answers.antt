@@ -1,23 +1,21 @@
--- Each way out of a pick is what it owes: a refused text (`refused`), a selection (`selected`), no sheet (`unsheeted`), a sheet (`sheeted`); and so is
--- a whole pick (`unfit_owed`, `fit_owed`). Assumes nothing.
+-- Each way out of a pick whose text reads well is what it owes: a selection (`selected`), no sheet (`unsheeted`), a sheet (`sheeted`). Assumes nothing.
 use mathlib.Core.Path.{◌≡◌, refl, sym, ◌∙◌, ap, ap₂, subst}
-use mathlib.Core.Logic.{◌≢◌, inl, inr}
-use mathlib.Core.Bool.{true, false, ◌&&◌}
+use mathlib.Core.Logic.{inl, inr}
+use mathlib.Core.Bool.{true, false}
 use mathlib.Core.List.{List}
 use mathlib.Core.Option.{Option, none}
 use Prim.Native.Nat.{ℕ, ◌+◌, ◌*◌, ◌≤◌}
 use native.Mathlib.Omega.{arith}
-use lib.Dec.{leb}
-use lib.ListN.{length, take, replicate, get_or, length-take}
+use lib.ListN.{length, take, get_or, length-take}
 use lib.Seq.{sets}
-use borrow.Author.Tests.{leb-true, eqb-true}
-use Rattle.rules.specs.Lines.{Fault, fault, fine}
+use Rattle.rules.specs.Lines.{fault, fine}
 use Rattle.rules.specs.Catalogue.{Catalogue, limits, text_fault, catalogue_of}
 use Rattle.rules.specs.Selection.{Selection, selection_text}
 use Rattle.rules.specs.Search.{best, trials_of}
-use Rattle.rules.specs.Sheet.{most_lines, sheet_text}
-use Rattle.rules.proofs.Lists.{and_fst, and_snd, not_both}
+use Rattle.rules.specs.Sheet.{sheet_text}
+use Rattle.rules.proofs.Lists.{not_both}
 use Rattle.rules.proofs.Theorems.{sheets_tell}
+use Rattle.rules.proofs.SheetText.{entries_length}
 use Rattle.std.specs.declared.result.Result.TheVariants.{Ok, Err}
 use Rattle.catalogue.specs.declared.reading.Catalogue as Code
 use Rattle.catalogue.specs.Reading.{CatalogueRead}
@@ -28,34 +26,14 @@ use Rattle.selection.specs.Written.{text_in}
 use Rattle.selection.proofs.Whole.{settled_few, text_length}
 use Rattle.selection.proofs.Selected.{text_is_the_rules}
 use Rattle.picker.specs.declared.Picked.{Picked}
-use Rattle.picker.specs.Entry.{selection_least, sheet_least, work_least, areas_fit, over, zeroed, picked, is_fine}
-use Rattle.picker.specs.Entry.{SheetWritten, SheetOwes, OutcomeOwes, ReadOwes, PickOwes}
+use Rattle.picker.specs.Entry.{selection_least, sheet_least, over, picked, is_fine}
+use Rattle.picker.specs.Entry.{SheetWritten, SheetOwes, OutcomeOwes, ReadOwes}
 use Rattle.picker.specs.Inside.{HasRoom, search_of}
 use Rattle.picker.specs.Written.{sheet_in}
 use Rattle.picker.proofs.Stored.{stored_over}
-use Rattle.picker.proofs.Sheets.{sheet_length, sheet_is_the_rules, lines_short}
+use Rattle.picker.proofs.Sheets.{sheet_length, sheet_is_the_rules}
 use Rattle.picker.proofs.Readings.{ReadWell, read_fine, read_well}
 use Rattle.picker.proofs.Outcomes.{sheet_lines, SheetLeft, found_best, found_none, over_small, sheet_left}
-
--- FITTING AREAS have room
-pub has_room : (s h w : List ℕ) (a : ℕ) → areas_fit s h w a ≡ true → HasRoom s h w a
-has_room s h w a e =
-    let all : (leb selection_least (length s) && leb sheet_least (length h) && leb work_least (length w) && leb a most_lines) ≡ true = e in
-    record {
-      selection_room = leb-true _ _ (search (and_fst, and_snd));
-      sheet_room = leb-true _ _ (search (and_fst, and_snd));
-      work_room = leb-true _ _ (search (and_fst, and_snd));
-      few_lines = leb-true _ _ (search (and_fst, and_snd));
-    }
-
--- A REFUSED TEXT: its number and line, and nothing is written
-pub refused : {text s h : List ℕ} {a : ℕ} {l : Code.Catalogue} {x : Fault} {r : Picked} → CatalogueRead text l x → x.number ≢ 0 → r ≡ picked x 0 →
-    ReadOwes text s h a r s h
-refused read bad e =
-    record {
-      refused = λ q. (e ∙ ap (λ (y : Fault). picked y 0) read.fault_is, refl, refl);
-      read = λ q. absurd (bad (ap (λ (y : Fault). y.number) read.fault_is ∙ eqb-true _ 0 q));
-    }
 
 -- READ: what is known of a pick whose text reads well
 pub record Known (text selection sheet work : List ℕ) (allowance : ℕ) (l : Code.Catalogue) : Type 0 where
@@ -153,7 +131,7 @@ module _ {text s h w : List ℕ} {a : ℕ} {l : Code.Catalogue} (k : Known text 
 
         -- and with head and end its whole text has room in the areas
         pub lines_fit : z.noted.end ≤ 7200
-        lines_fit = omega (arith, left.ends, left.within, lines_short (sheet_lines c), k.room.few_lines)
+        lines_fit = omega (arith, left.ends, left.within, entries_length (sheet_lines c), k.room.few_lines)
 
         pub sheet_fits : length (sheet_from z) ≤ sheet_least
         sheet_fits = rw (sheet_length (take z.noted.end z.area) z.noted.lines, left.text) (omega (arith, lines_fit, left.ends))
@@ -187,13 +165,3 @@ module _ {text s h w : List ℕ} {a : ℕ} {l : Code.Catalogue} (k : Known text 
                       e ∙ stored_over (sheet_from z) h (omega (arith, sheet_fits, k.room.sheet_room)) ∙
                       ap (λ (t : List ℕ). over t h) rules_sheet;
                 }
-
--- A WHOLE PICK: areas that don't fit change nothing
-pub unfit_owed : (text s h w : List ℕ) (a : ℕ) {r : Picked} → areas_fit s h w a ≡ false → r ≡ picked (fault 11 0) 0 → PickOwes text s h w a r s h w
-unfit_owed text s h w a f p = record { unfit = λ q. (p, refl, refl, refl); fit = λ q. absurd (not_both q f) }
-
--- and others are answered, with the work area made zero
-pub fit_owed : (text s h w used : List ℕ) (a : ℕ) {r : Picked} {u v x : List ℕ} → areas_fit s h w a ≡ true → ReadOwes text s h a r u v →
-    length used ≡ length w → x ≡ zeroed used → PickOwes text s h w a r u v x
-fit_owed text s h w used a f o n z =
-    record { unfit = λ q. absurd (not_both f q); fit = λ q. (o, z ∙ ap (λ (k : ℕ). replicate k 0) n) }

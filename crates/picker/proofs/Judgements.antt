@@ -1,34 +1,24 @@
--- Each way out of a check is what it owes: a catalogue that is refused (`text_told`), a sheet that is judged (`sheet_told`), and a work area that is too
--- short or long enough (`short_told`, `long_told`). Assumes nothing.
+-- Where the catalogue reads well, what is told of a judged sheet is what a check owes (`sheet_told`). Assumes nothing.
 use mathlib.Core.Path.{◌≡◌, sym, ◌∙◌, ap, subst₂}
-use mathlib.Core.Logic.{◌≢◌}
 use mathlib.Core.List.{List}
-use Prim.Native.Nat.{ℕ, ◌≤◌, ◌<◌}
+use Prim.Native.Nat.{ℕ, ◌≤◌}
 use native.Mathlib.Omega.{arith}
 use lib.ListN.{length}
-use borrow.Author.Tests.{le-leb, lt-leb, ne_eqb}
-use Rattle.rules.specs.Lines.{Fault, fault, fine}
-use Rattle.rules.specs.Frames.{catalogues, sheets}
-use Rattle.rules.specs.Catalogue.{Catalogue, limits, text_fault, catalogue_of}
-use Rattle.rules.proofs.Lists.{cond_true, cond_false}
+use Rattle.rules.specs.Lines.{Fault, fine}
+use Rattle.rules.specs.Frames.{sheets}
+use Rattle.rules.specs.Catalogue.{Catalogue, limits, catalogue_of}
+use Rattle.rules.proofs.Lists.{cond_true}
 use Rattle.store.specs.Lent.{Lent, lent_by}
 use Rattle.catalogue.specs.declared.reading.Catalogue as Code
 use Rattle.catalogue.specs.Reading.{CatalogueRead}
 use Rattle.sheets.specs.Reading.{Given, SheetJudged}
 use Rattle.sheets.proofs.Judging.{read_given}
-use Rattle.picker.specs.Entry.{work_least, zeroed, is_fine}
-use Rattle.picker.specs.Checking.{checked, checked_by, check_on, check_of, work_after}
+use Rattle.picker.specs.Entry.{work_least, is_fine}
+use Rattle.picker.specs.Checking.{checked_by, check_on}
 use Rattle.picker.specs.declared.Checked.{Checked}
 use Rattle.picker.proofs.Readings.{ReadWell, read_fine, read_well}
 
--- ONCE THE WORK AREA FITS: a catalogue that is refused
-pub text_told : {text : List ℕ} (sheet : List ℕ) {l : Code.Catalogue} {x : Fault} {r : Checked} → CatalogueRead text l x → x.number ≢ 0 →
-    r ≡ checked_by catalogues x → r ≡ check_on text sheet
-text_told {text} sheet read n e =
-    e ∙ ap (checked_by catalogues) read.fault_is ∙
-    sym (cond_false _ _ (ne_eqb (text_fault limits text).number 0 (λ z. n (ap (λ (y : Fault). y.number) read.fault_is ∙ z))))
-
--- and one that is read, with what is told of the sheet
+-- a catalogue that is read well
 module _ {text : List ℕ} {l : Code.Catalogue} (read : CatalogueRead text l fine) where
   abbrev c : Catalogue
   c = catalogue_of limits text
@@ -58,14 +48,3 @@ module _ {text : List ℕ} {l : Code.Catalogue} (read : CatalogueRead text l fin
     where
       told : SheetJudged (lent_by l.tables l.state.modules) l.state.needs sheet area exit y
       told = subst₂ (λ (v : Lent) (n : ℕ). SheetJudged v n sheet area exit y) is-lent is-needs judged
-
--- ANY WORK AREA
-module _ (text sheet work : List ℕ) where
-  pub short_told : {r : Checked} → length work < work_least → r ≡ checked (fault 11 0) 0 → (r ≡ check_of text sheet work) × (work ≡ work_after work)
-  short_told l e = let short = lt-leb work_least (length work) l in (e ∙ sym (cond_false _ _ short), sym (cond_false _ _ short))
-
-  pub long_told : (left : List ℕ) {r : Checked} {exit : List ℕ} → work_least ≤ length work → r ≡ check_on text sheet → length left ≡ length work →
-      exit ≡ zeroed left → (r ≡ check_of text sheet work) × (exit ≡ work_after work)
-  long_told left l e k z =
-      let long = le-leb work_least (length work) l in
-      (e ∙ sym (cond_true _ _ long), z ∙ rw k (sym (cond_true _ _ long)))

@@ -27,7 +27,7 @@ use Rattle.picker.specs.Entry.{work_least}
 use Rattle.picker.specs.Inside.{search_of}
 use Rattle.picker.proofs.Readings.{ReadWell}
 use Rattle.picker.proofs.Stored.{stored_over}
-use Rattle.picker.proofs.Sheets.{lines_short}
+use Rattle.rules.proofs.SheetText.{entries_length}
 
 -- the lines that a failing search leaves
 abbrev pub sheet_lines : Catalogue → List Entry
@@ -131,7 +131,7 @@ module _ {l : Code.Catalogue} {c : Catalogue} (k : ReadWell l c) (a : ℕ) (work
               count = ap (λ (x : Sheet). x.noted.lines) (all_noted b);
               ends = ends;
               text =
-                  ap₂ take ends (ap (λ (x : Sheet). x.area) (all_noted b) ∙ stored_over text work (omega (arith, lines_short lines))) ∙
+                  ap₂ take ends (ap (λ (x : Sheet). x.area) (all_noted b) ∙ stored_over text work (omega (arith, entries_length lines))) ∙
                   take-append_seam text _;
             }
 

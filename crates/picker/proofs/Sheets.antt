@@ -1,14 +1,13 @@
--- A sheet's text: its three parts, stored one behind the other, make it (`sheet_stored`); it is the rules' text of the sheet (`sheet_is_the_rules`),
--- and no sheet within the most lines is longer than its area (`lines_short`). Assumes nothing.
+-- A sheet's text: its three parts, stored one behind the other, make it (`sheet_stored`), and it is the rules' text of the sheet (`sheet_is_the_rules`).
+-- Assumes nothing.
 use mathlib.Core.Path.{◌≡◌, ◌∙◌, ap}
-use mathlib.Core.List.{List, [], ◌∷◌, ◌++◌, flat_map}
-use Prim.Native.Nat.{ℕ, ◌+◌, ◌*◌, ◌/◌, ◌%◌, ◌-◌, ◌≤◌, ◌<◌}
+use mathlib.Core.List.{List, ◌++◌, flat_map}
+use Prim.Native.Nat.{ℕ, ◌+◌, ◌/◌, ◌%◌, ◌-◌, ◌≤◌, ◌<◌}
 use native.Mathlib.Omega.{arith}
 use borrow.Rule.Slice.PartMut.{put_mid}
 use lib.ListN.{length, length-append}
 use lib.Seq.{sets, length-sets}
-use Rattle.rules.specs.Frames.{pair_bytes}
-use Rattle.rules.specs.Sheet.{Entry, cites, resolves, entry_text, sheet_text}
+use Rattle.rules.specs.Sheet.{Entry, entry_text, sheet_text}
 use Rattle.rules.proofs.Written.{frame_length}
 use Rattle.frames.proofs.Areas.{sets_append}
 use Rattle.picker.specs.Written.{head_of, end_line, sheet_in}
@@ -52,17 +51,3 @@ unfolding sheet_in sheet_text
 sheet_is_the_rules es l =
     let high : length es / 256 % 256 ≡ length es / 256 = omega arith in
     rw high
-
--- a line has at most 15 bytes
-line_short : (e : Entry) → length (entry_text e) ≤ 15
-unfolding entry_text
-line_short (cites k) = let l = frame_length (33 ∷ pair_bytes k) in omega arith
-line_short (resolves a b m) = let l = frame_length (34 ∷ pair_bytes a ++ pair_bytes b ++ (m ∷ [])) in omega arith
-
-pub lines_short : (es : List Entry) → length (flat_map entry_text es) ≤ 15 * length es
-unfolding flat_map
-lines_short [] = omega arith
-lines_short (e ∷ es) =
-    let one = line_short e in
-    let rest = lines_short es in
-    rw (length-append (entry_text e) (flat_map entry_text es)) (omega arith)

@@ -2,30 +2,28 @@
 -- bytes of the longest sheet (`pick_length`), so two bytes hold each. Assumes nothing.
 use mathlib.Core.Path.{◌≡◌, refl, ap}
 use mathlib.Core.Logic.{◌⊎◌, inl, inr}
-use mathlib.Core.Bool.{Bool, true, false, ◌&&◌, cond}
-use mathlib.Core.List.{List, [], ◌∷◌, flat_map}
+use mathlib.Core.Bool.{Bool, true, false, cond}
+use mathlib.Core.List.{List, [], ◌∷◌}
 use mathlib.Core.Option.{Option, none, some}
 use Prim.Native.Nat.{ℕ, suc, ◌+◌, ◌-◌, ◌≤◌}
 use native.Mathlib.Omega.{arith}
 use lib.Dec.{ltb, leb, eqb}
 use lib.ListN.{length}
-use borrow.Author.Tests.{leb-true, ltb-false, eqb-true}
-use Rattle.rules.specs.Lists.{is_in}
+use borrow.Author.Tests.{ltb-false, eqb-true}
 use Rattle.rules.specs.Lines.{fault, Line, line, with_byte, line_feed, lines_of}
 use Rattle.rules.specs.Frames.{catalogues, sheets, frame_of, Reader, Read, bad, got, line_fault, read_from, read_text, fault_of}
 use Rattle.rules.specs.Catalogue.{Catalogue, Carried, reading, no_catalogue, limits, catalogue_reader, text_fault, catalogue_of}
 use Rattle.rules.specs.Selection.{Selection}
 use Rattle.rules.specs.Search.{best}
-use Rattle.rules.specs.Sheet.{Entry, entry_text, sheet_text, most_lines, entries_fit, last_line, refutes, is_refuting, sheet_reader, sheet_reading, sheet_fault}
-use Rattle.rules.proofs.Lists.{and_fst, and_snd}
+use Rattle.rules.specs.Sheet.{sheet_reader, sheet_reading, sheet_fault}
 use Rattle.rules.proofs.Reading.{limits_carried}
 use Rattle.rules.proofs.SelectionText.{selection_short}
 use Rattle.rules.proofs.Theorems.{reads_well_formed}
+use Rattle.rules.proofs.SheetText.{sheet_short}
 use Rattle.picker.specs.Entry.{sheet_least, work_least, is_fine, areas_fit, SheetOwes, OutcomeOwes, ReadOwes}
 use Rattle.picker.specs.Checking.{checked, checked_by, PickLine, PickLength, CheckLine}
 use Rattle.picker.specs.declared.Picked.{Picked}
 use Rattle.picker.proofs.Numbers.{text_fine}
-use Rattle.picker.proofs.Sheets.{sheet_length, sheet_is_the_rules, lines_short}
 
 -- A TEXT has no more lines than bytes
 with_byte_few : (c n : ℕ) (ls : List Line) → length ls ≤ n → length (with_byte c ls) ≤ suc n
@@ -101,18 +99,6 @@ pick_line t s h w a r u v x owes = by_areas (areas_fit s h w a) refl
     by_areas : (b : Bool) → areas_fit s h w a ≡ b → r.line ≤ 32769
     by_areas true e = by_text (is_fine (text_fault limits t)) refl (owes.fit e).0
     by_areas false e = let told = ap (λ (p : Picked). p.line) (owes.unfit e).0 in omega (arith, told)
-
--- a refuting sheet's text is no longer than its area
-sheet_short : (c : Catalogue) (es : List Entry) → is_refuting c es ≡ true → length (sheet_text es) ≤ sheet_least
-unfolding is_refuting
-sheet_short c es e =
-    let all : (is_in 1 most_lines (length es) && entries_fit c 0 es && refutes c (last_line c es)) ≡ true = e in
-    let count : is_in 1 most_lines (length es) ≡ true = search (and_fst, and_snd) in
-    let few : length es ≤ most_lines = leb-true (length es) most_lines (and_snd (leb 1 (length es)) _ count) in
-    let same = ap length (sheet_is_the_rules es (omega arith)) in
-    let long = sheet_length (flat_map entry_text es) (length es) in
-    let lines = lines_short es in
-    omega (arith, same, long, lines, few)
 
 pub pick_length : PickLength
 pick_length t s h w a r u v x owes = by_areas (areas_fit s h w a) refl

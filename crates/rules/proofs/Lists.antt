@@ -197,12 +197,6 @@ mem_below {n} {x} h = mem_up_from 0 n x (omega arith) (omega arith)
 pub below_mem : {n x : ℕ} → Mem x (below n) → x < n
 below_mem {n} {x} h = let r = up_from_mem 0 n x h in omega arith
 
-pub mem_down_from : (n x : ℕ) → x < n → Mem x (down_from n)
-unfolding down_from
-mem_down_from zero x h = absurd (not-suc-le-zero h)
-mem_down_from (suc n) x h =
-    ⊎_elim (λ e. here e) (λ e. there (mem_down_from n x (omega arith))) (same_or_not x n)
-
 pub down_from_mem : (n x : ℕ) → Mem x (down_from n) → x < n
 unfolding down_from
 down_from_mem zero x h = absurd (not-nil h)

@@ -301,12 +301,13 @@ module _ (c : Catalogue) where
       entries : Run (sheet_reader c) (sheet_reading 1 (length es) []) (lines_of rest) (sheet_reading 2 0 es)
       entries = run_of_entries h es (search (and_fst, and_snd)) es [] refl (search (and_fst, and_snd)) (omega (arith, few_lines es e))
 
+-- a line has at most 15 bytes
 entry_length : (e : Entry) → length (entry_text e) ≤ 15
 unfolding entry_text
 entry_length (cites k) = rw frame_length (omega arith)
 entry_length (resolves a b m) = rw frame_length (omega arith)
 
-entries_length : (es : List Entry) → length (flat_map entry_text es) ≤ 15 * length es
+pub entries_length : (es : List Entry) → length (flat_map entry_text es) ≤ 15 * length es
 unfolding flat_map
 entries_length [] = omega arith
 entries_length (e ∷ es) =
@@ -315,9 +316,12 @@ entries_length (e ∷ es) =
     rw length-append (omega arith)
 
 -- the text of the longest sheet, in bytes
-sheet_length : (es : List Entry) → length es ≤ most_lines → length (sheet_text es) ≤ 7214
+pub sheet_short : (c : Catalogue) (es : List Entry) → is_refuting c es ≡ true → length (sheet_text es) ≤ 7214
 unfolding sheet_text
-sheet_length es h = let rest = entries_length es in simp (length-append, frame_length) (omega arith)
+sheet_short c es e =
+    let few = few_lines c es e in
+    let lines = entries_length es in
+    simp (length-append, frame_length) (omega arith)
 
 -- the checker accepts exactly the texts of refuting sheets
 pub accepts_exactly : AcceptsExactly
@@ -336,7 +340,7 @@ accepts_exactly l c t h g = (told, accepted)
         es = s.0
 
         short : length (sheet_text es) ≤ l.bytes
-        short = omega (arith, sheet_length es (few_lines c es s.1))
+        short = omega (arith, sheet_short c es s.1)
 
         run : Run (sheet_reader c) (sheet_reading 0 0 []) (lines_of (sheet_text es)) (sheet_reading 2 0 es)
         run = run_of_sheet c g es s.1

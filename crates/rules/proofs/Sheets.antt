@@ -328,11 +328,6 @@ module _ (c : Catalogue) (p : Selection) (m : ℕ) (l : m < length p) (z : m < c
 
 -- THE SEARCH and its lines
 module _ (n : ℕ) (c : Catalogue) (t : Tries) (p : Selection) (at : ℕ) where
-  -- with nothing next a search leaves no lines
-  pub lines_done : next_modules c p ≡ [] → search_lines (suc n) c t p at ≡ []
-  unfolding search_lines
-  lines_done e = rw (e, search_lines)
-
   -- the lines of a search are those of its next module's place
   pub lines_next : (m : ℕ) (ms : List ℕ) → next_modules c p ≡ m ∷ ms →
       search_lines (suc n) c t p at ≡ cites (Option.get_or (asking c p m) 0) ∷ tries_lines c (search_lines n c t) p m at (suc at) (t m)

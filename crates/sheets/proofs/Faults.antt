@@ -1,5 +1,5 @@
 -- A frame of a known kind: its fault (`fault_law`) and how the reading goes on (`after_law`) are those of the rules' reader, told by its fields and
--- the little that the code keeps beside the rows. Of two frames with the same bytes the fields are the same (`bytes_fields`). Assumes nothing.
+-- the little that the code keeps beside the rows. Assumes nothing.
 use mathlib.Core.Path.{◌≡◌, refl, sym, ◌∙◌, ap}
 use mathlib.Core.Logic.{⊎_elim, ◌≢◌}
 use mathlib.Core.Bool.{Bool, true, false, ◌&&◌, not, cond}
@@ -10,7 +10,7 @@ use lib.Dec.{eqb}
 use lib.ListN.{length}
 use borrow.Author.Tests.{ne_eqb}
 use Rattle.rules.specs.Lines.{or_else, unless}
-use Rattle.rules.specs.Frames.{byte_at, kind_of, sheets, kinds, row_in, digits_for}
+use Rattle.rules.specs.Frames.{kind_of, sheets, kinds, row_in, digits_for}
 use Rattle.rules.specs.Catalogue.{Catalogue}
 use Rattle.rules.specs.Sheet.{SheetReading, sheet_reader, sheet_order_fits, sheet_content_fits, with_sheet_frame}
 use Rattle.rules.proofs.Lists.{same_or_not, length_last}
@@ -165,7 +165,3 @@ module _ (u : SheetReading) (f : List ℕ) where
       go (a_need e) = need_next e ∙ ap goes (sym (need_fields_lem f e))
       go (a_resolved e) = resolved_next e ∙ ap goes (sym (resolved_fields f e))
       go (an_end e) = end_next e ∙ ap goes (sym (end_fields f e))
-
--- THE FIELDS are told by the bytes alone
-pub bytes_fields : (f g : List ℕ) → ((i : ℕ) → byte_at g i ≡ byte_at f i) → (i j k : ℕ) → fields_at i j k g ≡ fields_at i j k f
-bytes_fields f g alike i j k = simp alike

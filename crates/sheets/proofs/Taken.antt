@@ -15,25 +15,13 @@ use Rattle.rules.proofs.Lists.{and_snd}
 use Rattle.frames.specs.Kinds.{row_for}
 use Rattle.frames.specs.Texts.{Kept, FrameTaken}
 use Rattle.frames.proofs.Judged.{row_kind}
+use Rattle.frames.proofs.Taken.{frame_refused, frame_kept}
 use Rattle.store.specs.Lent.{lent_of}
 use Rattle.store.proofs.Kept.{checks_none}
 use Rattle.sheets.specs.declared.reading.SheetReader.{SheetReader}
-use Rattle.sheets.specs.Frame.{Fields, State, state_told, fields_at, fields_by, fields_in, frame_fault, after}
+use Rattle.sheets.specs.Frame.{Fields, State, state_told, fields_by, fields_in, frame_fault, after}
 use Rattle.sheets.specs.Reading.{kept_line, Held, held, reader, StandsFor}
-use Rattle.sheets.proofs.Faults.{Known, a_head, a_need, a_resolved, an_end, known_kind, bytes_fields}
-
--- the fields that the code reads of the bytes it has kept, by the row of their kind
-fields_had : (bytes : List ℕ) → Fields
-fields_had f = fields_by (row_for sheets (byte_at f 0)) f
-
-fields_same : {bytes frame : List ℕ} → Kept sheets bytes frame → fields_had bytes ≡ fields_in frame
-unfolding fields_had
-fields_same {bytes} {frame} k =
-    ap by_kind (row_kind kinds sheets (byte_at bytes 0)) ∙ bytes_fields frame bytes k.alike _ _ _ ∙
-    ap (λ (n : ℕ). fields_at (row_for sheets n).first (row_for sheets n).second (row_for sheets n).third frame) (k.alike 0)
-  where
-    by_kind : ℕ → Fields
-    by_kind n = let r = row_for sheets (byte_at bytes 0) in fields_by (record { text = r.text; kind = n; digits = r.digits; first = r.first; second = r.second; third = r.third }) bytes
+use Rattle.sheets.proofs.Faults.{Known, a_head, a_need, a_resolved, an_end, known_kind}
 
 -- a good frame leaves no more lines due and read than a sheet may have
 module _ (s : State) (m n : ℕ) (f : Fields) (few : s.due + s.lines ≤ most_lines) where
@@ -62,8 +50,7 @@ few_now old new f k e state few =
 -- the fields that the code gets are the frame's
 module _ {bytes : List ℕ} {r : Rules.Kind} {f : Fields} (fields_are : f ≡ fields_by r bytes) (row_is : r ≡ row_for sheets (byte_at bytes 0)) where
   fields : {frame : List ℕ} → Kept sheets bytes frame → f ≡ fields_in frame
-  unfolding fields_had
-  fields k = fields_are ∙ ap (λ (x : Rules.Kind). fields_by x bytes) row_is ∙ fields_same k
+  fields k = rw (fields_are, row_is) (simp (k.alike, row_kind kinds sheets))
 
   known : {frame : List ℕ} → Kept sheets bytes frame → Known f.kind
   known {frame} k = subst (λ (x : Fields). Known x.kind) (sym (fields k)) (known_kind (kind_of frame) k.known)
@@ -75,12 +62,7 @@ module _ {bytes : List ℕ} {r : Rules.Kind} {f : Fields} (fields_are : f ≡ fi
 
     -- a faulty frame changes nothing
     pub refused : {k : ℕ} → k ≢ 0 → k ≡ found old f → FrameTaken reader StandsFor old old bytes k
-    refused {k} some e =
-        record {
-          number_is = λ u frame z kept. e ∙ fault_same u z kept;
-          goes_on = λ u frame z kept none. absurd (some none);
-          stays = λ u z none. z;
-        }
+    refused some e = frame_refused reader StandsFor (λ u frame z kept. e ∙ fault_same u z kept) some
 
     -- a good one is kept
     module _ (new : SheetReader) (e : 0 ≡ found old f) (lent : lent_of new.lent ≡ lent_of old.lent)
@@ -98,9 +80,4 @@ module _ {bytes : List ℕ} {r : Rules.Kind} {f : Fields} (fields_are : f ≡ fi
           now = rw (lent, needs, state, area, fields k)
 
       pub taken : FrameTaken reader StandsFor old new bytes 0
-      taken =
-          record {
-            number_is = λ u frame z kept. e ∙ fault_same u z kept;
-            goes_on = λ u frame z kept none. goes_on u frame z kept;
-            stays = λ u z some. absurd (some refl);
-          }
+      taken = frame_kept reader StandsFor (λ u frame z kept. e ∙ fault_same u z kept) refl (λ u frame z kept none. goes_on u frame z kept)

@@ -1,5 +1,5 @@
 -- A frame of a known kind: its fault (`fault_law`) and how the reading goes on (`after_law`) are those of the rules' reader, told by its fields and
--- the little that the code keeps beside the tables. Of two frames with the same bytes the fields are the same (`bytes_fields`). Assumes nothing.
+-- the little that the code keeps beside the tables. Assumes nothing.
 use mathlib.Core.Path.{◌≡◌, refl, sym, ◌∙◌, ap}
 use mathlib.Core.Logic.{⊎_elim, ◌≢◌}
 use mathlib.Core.Bool.{Bool, true, false, ◌&&◌, ◌||◌, not, cond, and-true, or_assoc}
@@ -253,7 +253,3 @@ module _ (l : Limits) (u : Reading) (f : List ℕ) where
       go (a_need e) = need_next e ∙ ap goes (sym (need_fields_lem f e))
       go (a_caret e) = caret_next e ∙ ap goes (sym (caret_fields f e))
       go (an_end e) = end_next e ∙ ap goes (sym (end_fields f e))
-
--- THE FIELDS are told by the bytes alone
-pub bytes_fields : (f g : List ℕ) → ((i : ℕ) → byte_at g i ≡ byte_at f i) → (i j k : ℕ) → fields_at i j k g ≡ fields_at i j k f
-bytes_fields f g alike i j k = simp alike

@@ -1,4 +1,3 @@
 -- Lemmas that the proofs of this crate and of the reader share.
-pub mod Told
 pub mod Faults
 pub mod Kept

@@ -1,5 +1,5 @@
 -- `frames::kinds::look_up` meets its contract: the row at a place is the one looked for, or it is passed by. The rows are the rules', by computation.
-use mathlib.Core.Path.{◌≡◌, refl, sym, ◌∙◌, ap}
+use mathlib.Core.Path.{◌≡◌, sym, ◌∙◌, ap}
 use mathlib.Core.Bool.{Bool, true, false, ◌&&◌, cond}
 use mathlib.Core.List.{List, [], ◌∷◌}
 use Prim.Native.Nat.{ℕ, ◌+◌, ◌≤◌, ◌<◌}
@@ -59,10 +59,6 @@ past = record { text = Catalogue; kind = Head; digits = 0; first = 0; second = 0
 row_there : (i : ℕ) → row_of (get_or table i past) ≡ get_or kinds i (row_of past)
 unfolding kinds table past row
 row_there i = sym (get_or-map row_of table i past)
-
-pub loop-row-init : goal.loop-row-init
-unfolding kinds
-loop-row-init c = refl
 
 pub returns-then-is_of : goal.returns-then-is_of
 unfolding kinds table past row

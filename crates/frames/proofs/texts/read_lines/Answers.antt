@@ -4,6 +4,7 @@ use mathlib.Core.Path.{◌≡◌, sym, ◌∙◌, ap, subst}
 use mathlib.Core.List.{List}
 use Prim.Native.Nat.{ℕ, ◌+◌, ◌%◌}
 use native.Mathlib.Omega.{arith}
+use lib.ListN.{set}
 use Rattle.frames.specs.Digits.{pair_at}
 use Rattle.frames.specs.Faults.{told}
 use Rattle.frames.specs.declared.digits.Pair.TheVariants.{Byte}
@@ -32,7 +33,8 @@ digits-preserved g c =
     let there : pair_at c.args.text.now c.digits.at ≡ Byte c.in-Byte.b = sym c.pair_at-pair.ensures ∙ c.in-Byte.is in
     let total = (c.digits.sum + c.in-Byte.b) % 256 in
     let longer = line_byte _ _ _ _ _ _ c.digits.invariant _ there in
-    subst (λ (f : List ℕ). InLine c.args.text.now c.lines.at (c.digits.at + 2) f (c.digits.bytes + 1) total) (sym c.put.ensures) longer
+    subst (λ (f : List ℕ). InLine c.args.text.now c.lines.at (c.digits.at + 2) f (c.digits.bytes + 1) total)
+    {x = set c.digits.frame c.digits.bytes c.in-Byte.b} (sym c.put.ensures) longer
 
 -- A LINE'S END
 pub take_line-requires-clause-size : goal.take_line-requires-clause-size
