@@ -9,9 +9,9 @@ pub fn hex(d: u8) -> u8
     ensures { result ≡ digit_byte d }
 {
     if d < 10 {
-        return 48 + d;
+        return b'0' + d;
     }
-    55 + d
+    b'A' - 10 + d
 }
 
 // Writes a byte as a pair of digits into an area at a place. Every other byte of the area stays.
@@ -38,6 +38,6 @@ pub fn write_frame(out: &mut [u8], at: usize, bytes: &[u8]) -> usize
     }
     let check = (256 - sum) % 256;
     write_byte(out, end, check as u8);
-    out[end + 2] = 10;
+    out[end + 2] = b'\n';
     end + 3
 }

@@ -16,6 +16,7 @@ use Rattle.rules.specs.Selection.{Selection}
 use Rattle.rules.specs.Search.{newest_first, best}
 use Rattle.rules.specs.Sheet.{Entry, most_lines, entry_text, sheet_of}
 use Rattle.rules.proofs.Lists.{true_or_false, not_both}
+use Rattle.rules.proofs.SheetText.{entries_length}
 use Rattle.std.specs.declared.result.Result.{Result}
 use Rattle.std.specs.declared.result.Result.TheVariants.{Ok, Err}
 use Rattle.catalogue.specs.declared.reading.Catalogue as Code
@@ -27,7 +28,6 @@ use Rattle.picker.specs.Entry.{work_least}
 use Rattle.picker.specs.Inside.{search_of}
 use Rattle.picker.proofs.Readings.{ReadWell}
 use Rattle.picker.proofs.Stored.{stored_over}
-use Rattle.rules.proofs.SheetText.{entries_length}
 
 -- the lines that a failing search leaves
 abbrev pub sheet_lines : Catalogue → List Entry

@@ -16,6 +16,7 @@ pub use frames::kinds::Text;
 use moves::noting::Sheet;
 use search::find;
 use selection::text::write_selection;
+use sheets::frame::LINES;
 use sheets::reading::read_sheet;
 
 pub mod area;
@@ -28,7 +29,7 @@ pub const SHEET_LEAST: usize = 7214;
 
 pub const WORK_LEAST: usize = 65536;
 // The most lines of a sheet.
-pub const MOST_LINES: u16 = 480;
+pub const MOST_LINES: u16 = LINES;
 
 // The answer, in numbers as C gets it: a number of the rules' table (0: a selection is written), the line told, and the length of the text that is written.
 #[derive(Clone, Copy)]
