@@ -56,12 +56,16 @@ module _ {K S : Type 0} (r : Reader K) (stands : S → K → Type 0) {old : S} {
   unfolding line_fault_of tests
   line_refused {n} some e =
       record {
-        taken = λ u f h kept. (e ∙ sym (tests_fail (leb 2 size) (eqb total 0) (eqb (row_at r.text bytes).digits (size * 2)) (λ z. some (e ∙ z)) (r.fault u f)), λ z. absurd (some z));
+        taken = λ u f h kept. (
+          e ∙ sym (tests_fail (leb 2 size) (eqb total 0) (eqb (row_at r.text bytes).digits (size * 2)) (λ z. some (e ∙ z)) (r.fault u f)),
+          λ z. absurd (some z),
+        );
         stays = λ u h z. h;
       }
 
   -- where nothing is, what the reader tells of the frame is told
-  pub line_taken : {new : S} {n : ℕ} → line_fault_of size total (row_at r.text bytes) 0 ≡ 0 → FrameTaken r stands old new bytes n → LineTaken r stands old new bytes size total n
+  pub line_taken : {new : S} {n : ℕ} → line_fault_of size total (row_at r.text bytes) 0 ≡ 0 → FrameTaken r stands old new bytes n →
+      LineTaken r stands old new bytes size total n
   unfolding line_fault_of tests
   line_taken {new} {n} fine t =
       record {

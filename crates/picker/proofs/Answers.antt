@@ -109,7 +109,10 @@ module _ {text s h w : List ℕ} {a : ℕ} {l : Code.Catalogue} (k : Known text 
             either = inr is_ten;
             line_none = ap (λ (x : Picked). x.line) p;
             unwritten = λ q. (ap (λ (x : Picked). x.size) p, refl);
-            too_small = λ q. omega (arith, count_lines, over_small k.well a w none_best k.room.few_lines k.room.work_room (is-sheet ∙ ap (λ (x : Walked). x.sheet) same) is-over);
+            too_small = λ q.
+                let sheet_is = is-sheet ∙ ap (λ (x : Walked). x.sheet) same in
+                let small = over_small k.well a w none_best k.room.few_lines k.room.work_room sheet_is is-over in
+                omega (arith, count_lines, small);
             none_allowed = λ q. is_ten;
             written = λ q. absurd (omega (arith, q, is_ten));
           }

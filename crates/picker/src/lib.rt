@@ -39,7 +39,8 @@ pub struct Picked {
     pub size: u32,
 }
 
-// The checker's answer, in numbers too: a number of the rules' table (0: the sheet is accepted), the line told, and the text at fault: 0 neither, 1 the catalogue, 2 the sheet.
+// The checker's answer, in numbers too: a number of the rules' table (0: the sheet is accepted), the line told, and the text at fault:
+// 0 neither, 1 the catalogue, 2 the sheet.
 #[derive(Clone, Copy)]
 pub struct Checked {
     pub number: u8,

@@ -38,13 +38,15 @@ write_sheet-size-requires-clause-has c =
 pub write_sheet-size-requires-clause-room : goal.write_sheet-size-requires-clause-room
 write_sheet-size-requires-clause-room c =
     let new = c.new-lines.ensures in
-    let short = lines_fit (known c.requires c.in_default.ensures) new.sheet new.allowance c.in_default-find.ensures.told c.find.ensures.sheet.sheet c.if-over.false in
+    let known_read = known c.requires c.in_default.ensures in
+    let short = lines_fit known_read new.sheet new.allowance c.in_default-find.ensures.told c.find.ensures.sheet.sheet c.if-over.false in
     omega (arith, short, c.requires.sheet_room)
 
 pub overflow_cast-size-2 : goal.overflow_cast-size-2
 overflow_cast-size-2 c =
     let new = c.new-lines.ensures in
-    let short = sheet_fits (known c.requires c.in_default.ensures) new.sheet new.allowance c.in_default-find.ensures.told c.find.ensures.sheet.sheet c.if-over.false in
+    let known_read = known c.requires c.in_default.ensures in
+    let short = sheet_fits known_read new.sheet new.allowance c.in_default-find.ensures.told c.find.ensures.sheet.sheet c.if-over.false in
     omega (arith, c.write_sheet-size.ensures.size, short)
 
 pub returns : goal.returns

@@ -49,7 +49,8 @@ row t k n a b c = record { text = t; kind = k; digits = n; first = a; second = b
 
 table : List Row
 unfolding row
-table = row Catalogue Head 6 1 0 0 ∷ row Catalogue Version 12 1 2 0 ∷ row Catalogue Need 18 1 2 5 ∷ row Catalogue Caret 12 1 2 0 ∷ row Catalogue End 4 0 0 0 ∷
+table = row Catalogue Head 6 1 0 0 ∷ row Catalogue Version 12 1 2 0 ∷ row Catalogue Need 18 1 2 5 ∷ row Catalogue Caret 12 1 2 0 ∷
+    row Catalogue End 4 0 0 0 ∷
     row Sheet SheetHead 8 1 0 0 ∷ row Sheet NeedLine 8 1 0 0 ∷ row Sheet Resolved 14 1 3 5 ∷ row Sheet SheetEnd 4 0 0 0 ∷ []
 
 past : Row
