@@ -25,7 +25,7 @@ use Rattle.rules.proofs.Selections.{Next, suc_not_zero, asked_mem, mem_is_asked,
 use Rattle.rules.proofs.Theorems.{next_is_lowest}
 use Rattle.store.specs.declared.tables.Tables.{Tables}
 use Rattle.store.specs.Tables.{Holds}
-use Rattle.moves.specs.Wanted.{no_module, wanted_by, none_wanted, narrowed, better_in, fold_in, wanted_state, wanted_at, wanted_in}
+use Rattle.moves.specs.Wanted.{no_module, wanted_by, none_wanted, narrowed, better_in, fold_in, wanted_state, wanted_at, if_any, wanted_in}
 use Rattle.moves.specs.declared.wanted.Wanted.{Wanted}
 use Rattle.moves.proofs.Chosen.{chosen_of}
 
@@ -240,7 +240,7 @@ high_of c k = (need_at c k).high
 
 -- what all needs of chosen versions come to
 abbrev pub wanted_of : Tables → Catalogue → (chosen : List ℕ) → Wanted
-wanted_of t c ch = fold_in (wanted_at t ch) none_wanted 0 c.modules
+wanted_of t c ch = wanted_in t ch c.modules
 
 module _ (t : Tables) (c : Catalogue) (h : Holds t c) (chosen : List ℕ) where
   abbrev step : ℕ → Wanted → Wanted
@@ -287,7 +287,7 @@ module _ (t : Tables) (c : Catalogue) (h : Holds t c) (w : WellFormed c) (few : 
       (rw q at (w.targets k (asked_mem c (chosen_of c chosen) f.0).is_need), rw q at (mem_is_asked c (chosen_of c chosen) f.0))
 
   -- where nothing is next, nothing is wanted
-  pub wanted_none : next_modules c (chosen_of c chosen) ≡ [] → wanted_in t chosen c.modules ≡ None
+  pub wanted_none : next_modules c (chosen_of c chosen) ≡ [] → if_any (wanted_of t c chosen) ≡ None
   wanted_none e = cond_true _ _ (eq-eqb _ no_module (go (wanted_of t c chosen) comes))
     where
       go : (r : Wanted) → Comes r → r.owner.0 ≡ no_module
@@ -299,7 +299,7 @@ module _ (t : Tables) (c : Catalogue) (h : Holds t c) (w : WellFormed c) (few : 
 
   -- the next module is wanted, by the first need that asks for it
   pub wanted_next : (m : ℕ) (ms : List ℕ) → next_modules c (chosen_of c chosen) ≡ m ∷ ms →
-      (wanted_in t chosen c.modules ≡ Some (wanted_of t c chosen)) × ((wanted_of t c chosen).owner.0 ≡ m) ×
+      (if_any (wanted_of t c chosen) ≡ Some (wanted_of t c chosen)) × ((wanted_of t c chosen).owner.0 ≡ m) ×
       (asking c (chosen_of c chosen) m ≡ some (wanted_of t c chosen).need)
   unfolding asking
   wanted_next m ms e =

@@ -47,5 +47,5 @@ abbrev pub if_any : Wanted → Option Wanted
 if_any w = cond (eqb w.owner.0 no_module) None (Some w)
 
 -- what is wanted after the needs of the first n modules' states
-abbrev pub wanted_in : Tables → (chosen : List ℕ) → (modules : ℕ) → Option Wanted
-wanted_in t ch n = if_any (fold_in (wanted_at t ch) none_wanted 0 n)
+abbrev pub wanted_in : Tables → (chosen : List ℕ) → (modules : ℕ) → Wanted
+wanted_in t ch n = fold_in (wanted_at t ch) none_wanted 0 n

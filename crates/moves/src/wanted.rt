@@ -1,7 +1,7 @@
 // The next module to choose, the lowest that a chosen version needs and that is not chosen yet, with the need that asks for it and the range that is
 // left to it.
 ghost use Rattle.std.specs.Prelude.{◌≡◌};
-ghost use Rattle.moves.specs.Wanted.{none_wanted, narrowed, better_in, fold_in, wanted_at, wanted_in};
+ghost use Rattle.moves.specs.Wanted.{none_wanted, narrowed, if_any, better_in, fold_in, wanted_at, wanted_in};
 
 use frames::access::at;
 use frames::numbers::{ModuleNo, Place, Version};
@@ -10,9 +10,10 @@ use store::lookup::Span;
 use store::tables::Tables;
 
 // No module yet: the greatest number, which every other is below.
-const NO_MODULE: ModuleNo = ModuleNo(u16::MAX);
+pub const NO_MODULE: ModuleNo = ModuleNo(u16::MAX);
 
-// A module to choose, the number of the first need that asks for it, and the range that the needs of chosen versions leave to it.
+// A module to choose, the number of the first need that asks for it, and the range that the needs of chosen versions leave to it; NO_MODULE where none
+// is wanted.
 #[derive(Clone, Copy)]
 pub struct Wanted {
     pub need: u32,
@@ -23,7 +24,7 @@ pub struct Wanted {
 
 impl Wanted {
     // Nothing is wanted yet, and no version left out.
-    fn nothing() -> Wanted
+    pub fn nothing() -> Wanted
         ensures { result ≡ none_wanted }
     {
         Wanted {
@@ -32,6 +33,16 @@ impl Wanted {
             high: Version::NO_END,
             owner: NO_MODULE,
         }
+    }
+
+    // What is wanted, if a module is.
+    pub fn if_any(self) -> Option<Wanted>
+        ensures { result ≡ if_any self }
+    {
+        if self.owner == NO_MODULE {
+            return None;
+        }
+        Some(self)
     }
 
     // The same module, with what a need's range leaves of the range that it had.
@@ -109,16 +120,13 @@ pub fn wanted_of_module(
     wanted_of_version(t, chosen, needs, b)
 }
 
-// What is wanted after the needs of every module's chosen version, if anything is.
-pub fn next_of(t: &Tables, chosen: &[u16; MODULES as usize], modules: u16) -> Option<Wanted>
+// What is wanted after the needs of every module's chosen version.
+pub fn next_of(t: &Tables, chosen: &[u16; MODULES as usize], modules: u16) -> Wanted
     ensures { result ≡ wanted_in t.now chosen.now modules }
 {
     let mut w = Wanted::nothing();
     for k in 0..modules {
         w = wanted_of_module(t, chosen, ModuleNo(k), w);
     }
-    if w.owner == NO_MODULE {
-        return None;
-    }
-    Some(w)
+    w
 }

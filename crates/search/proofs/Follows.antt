@@ -14,6 +14,7 @@ use Rattle.store.specs.declared.tables.Tables.{Tables}
 use Rattle.store.specs.Tables.{Holds}
 use Rattle.moves.specs.declared.wanted.Wanted.{Wanted}
 use Rattle.moves.specs.Scan.{number_of}
+use Rattle.moves.specs.Wanted.{if_any}
 use Rattle.search.specs.Walking.{Moves, moves_in}
 use Rattle.search.proofs.Newest.{newest_run}
 use Rattle.moves.proofs.Chosen.{chosen_of, Chosen}
@@ -24,7 +25,7 @@ use Rattle.moves.proofs.Fitted.{fits_free, barred_unfit}
 -- where module m is next: it is wanted, by the need that asks for it, and a version fits just if no need bars it; else that need is told
 pub record Asks (v : Moves) (c : Catalogue) (chosen : List ℕ) (m : ℕ) : Type 0 where
   pub wanted : Wanted
-  pub is_next : v.next chosen ≡ Some wanted
+  pub is_next : if_any (v.next chosen) ≡ Some wanted
   pub owner : wanted.owner.0 ≡ m
   pub need : asking c (chosen_of c chosen) m ≡ some wanted.need
   pub free : (i : ℕ) → is_of c m i ≡ true → barring c (chosen_of c chosen) m i ≡ none → v.fits chosen wanted i ≡ true
@@ -34,7 +35,7 @@ pub record Asks (v : Moves) (c : Catalogue) (chosen : List ℕ) (m : ℕ) : Type
 -- moves that go by the rules
 pub record Follows (v : Moves) (c : Catalogue) : Type 0 where
   pub tries : (m : ℕ) → v.tries m ≡ newest_first c m
-  pub done : (chosen : List ℕ) → Chosen c chosen → next_modules c (chosen_of c chosen) ≡ [] → v.next chosen ≡ None
+  pub done : (chosen : List ℕ) → Chosen c chosen → next_modules c (chosen_of c chosen) ≡ [] → if_any (v.next chosen) ≡ None
   pub next : (chosen : List ℕ) → Chosen c chosen → (m : ℕ) (ms : List ℕ) → next_modules c (chosen_of c chosen) ≡ m ∷ ms → Asks v c chosen m
 
 module _ (t : Tables) (c : Catalogue) (holds : Holds t c) (w : WellFormed c) (few : c.modules ≤ 32) where

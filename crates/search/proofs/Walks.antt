@@ -12,6 +12,7 @@ use Rattle.rules.specs.Sheet.{cites, resolves}
 use Rattle.rules.proofs.Lists.{cond_true, cond_false}
 use Rattle.search.specs.declared.choices.Choices.{Choices}
 use Rattle.moves.specs.declared.wanted.Wanted.{Wanted}
+use Rattle.moves.specs.Wanted.{if_any}
 use Rattle.search.specs.Choosing.{choices, falling}
 use Rattle.moves.specs.Noting.{Sheet, note_in, number_in, entry_bytes}
 use Rattle.search.specs.Walking.{Moves, Walked, walked, told, if_wanted, try_walk, each_walk, walk_in}
@@ -57,7 +58,7 @@ module _ (v : Moves) (a : ℕ) where
       unfolding try_walk
       try_found z = rw (← is-chosen, ← is-go) (sym (cond_true _ _ (sym is-fit ∙ fits) ∙ cond_true _ _ z))
 
-      pub try_failed : t.found ≡ false → {back : Choices} → back ≡ choices (set t.choices.chosen w.owner.0 0) (Some w) →
+      pub try_failed : t.found ≡ false → {back : Choices} → back ≡ choices (set t.choices.chosen w.owner.0 0) w →
           walked false back t.sheet ≡ try_walk v a go w i r s
       unfolding try_walk
       try_failed z b = rw (b, ← is-chosen, ← is-go) (sym (cond_true _ _ (sym is-fit ∙ fits) ∙ cond_false _ _ z))
@@ -75,16 +76,16 @@ module _ (v : Moves) (a : ℕ) where
         (λ w. each_walk v a (walk_in f v a) w (number_in s) (v.tries w.owner.0) now (note_in a (entry_bytes (cites w.need)) s))
 
     module _ {asked : Choices} (is-asked : asked ≡ choices r.chosen (v.next r.chosen)) where
-      walk_is : (f : ℕ) → f ≢ 0 → walk_in f v a r s ≡ walk_of (f - 1) asked asked.next
+      walk_is : (f : ℕ) → f ≢ 0 → walk_in f v a r s ≡ walk_of (f - 1) asked (if_any asked.next)
       unfolding walk_in walk_of
       walk_is zero n = absurd (n refl)
       walk_is (suc f) n = let less : suc f - 1 ≡ f = omega arith in rw (less, is-asked)
 
-      pub place_found : (f : ℕ) → f ≢ 0 → asked.next ≡ None → walked true asked s ≡ walk_in f v a r s
+      pub place_found : (f : ℕ) → f ≢ 0 → if_any asked.next ≡ None → walked true asked s ≡ walk_in f v a r s
       unfolding walk_of
       place_found f n e = sym (walk_is f n ∙ ap (walk_of (f - 1) asked) e)
 
-      pub place_begun : (f : ℕ) → f ≢ 0 → {w : Wanted} → asked.next ≡ Some w → {places : List ℕ} → places ≡ v.tries w.owner.0 →
+      pub place_begun : (f : ℕ) → f ≢ 0 → {w : Wanted} → if_any asked.next ≡ Some w → {places : List ℕ} → places ≡ v.tries w.owner.0 →
           {next : Sheet} → next ≡ note_in a (entry_bytes (cites w.need)) s →
           walk_in f v a r s ≡ each_walk v a (walk_in (f - 1) v a) w (number_in s) places asked next
       unfolding walk_of

@@ -8,13 +8,13 @@ use Rattle.moves.specs.declared.wanted.Wanted.{Wanted}
 use Rattle.search.specs.Choosing.{choices, falling}
 use Rattle.moves.specs.Fitting.{fits_in}
 use Rattle.moves.specs.Scan.{number_of, scan_in, over_in}
-use Rattle.moves.specs.Wanted.{wanted_in}
+use Rattle.moves.specs.Wanted.{none_wanted, if_any, wanted_in}
 use Rattle.moves.specs.Noting.{Sheet, note_in, number_in, entry_bytes}
 
--- what a search asks of the tables: the module that is wanted next, if any is, its versions in the order of their trials, whether a version fits, and
--- the need that bars it where it does not
+-- what a search asks of the tables: the module that is wanted next, its versions in the order of their trials, whether a version fits, and the need
+-- that bars it where it does not
 pub record Moves : Type 0 where
-  pub next : (chosen : List ℕ) → Option Wanted
+  pub next : (chosen : List ℕ) → Wanted
   pub tries : (owner : ℕ) → List ℕ
   pub fits : (chosen : List ℕ) → Wanted → (place : ℕ) → Bool
   pub bar : (chosen : List ℕ) → (owner place : ℕ) → ℕ
@@ -47,7 +47,7 @@ told w = cond w.found (Ok w.choices) (Err w.choices)
 
 -- after a failure the choice is taken back
 abbrev pub taken_back : Wanted → Walked → Walked
-taken_back w r = cond r.found r (walked false (choices (set r.choices.chosen w.owner.0 0) (Some w)) r.sheet)
+taken_back w r = cond r.found r (walked false (choices (set r.choices.chosen w.owner.0 0) w) r.sheet)
 
 -- TRIAL of the wanted module at a place: the search goes on with the choice made, or the need that bars it is cited
 unfoldable pub try_walk : Moves → (allowance : ℕ) → (go : Choices → Sheet → Walked) → Wanted → (place : ℕ) → Choices → Sheet → Walked
@@ -74,12 +74,12 @@ if_wanted (Some w) u go = go w
 unfoldable pub walk_in : (fuel : ℕ) → Moves → (allowance : ℕ) → Choices → Sheet → Walked
 walk_in zero v a r s = walked true r s
 walk_in (suc f) v a r s = let now = choices r.chosen (v.next r.chosen) in
-    if_wanted now.next (walked true now s)
+    if_wanted (if_any now.next) (walked true now s)
     (λ w. each_walk v a (walk_in f v a) w (number_in s) (v.tries w.owner.0) now (note_in a (entry_bytes (cites w.need)) s))
 
 -- A WHOLE SEARCH, from the root's first version on, behind the lines that the sheet has
 abbrev pub started : (root : ℕ) → Choices
-started i = choices (set (replicate 32 0) 0 (suc i)) None
+started i = choices (set (replicate 32 0) 0 (suc i)) none_wanted
 
 abbrev pub search_in : Moves → (modules allowance root : ℕ) → Sheet → Walked
 search_in v n a i s = walk_in n v a (started i) s

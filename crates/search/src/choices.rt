@@ -2,7 +2,7 @@
 // choose next.
 ghost use Rattle.std.specs.Prelude.{◌≡◌, suc, ◌<◌, replicate, set};
 ghost use Rattle.search.specs.Choosing.{choices};
-ghost use Rattle.moves.specs.Wanted.{wanted_in};
+ghost use Rattle.moves.specs.Wanted.{none_wanted, wanted_in};
 
 use frames::access::put;
 use frames::numbers::{ModuleNo, Place};
@@ -14,17 +14,17 @@ use store::tables::Tables;
 #[derive(Drop)]
 pub struct Choices {
     pub chosen: [u16; MODULES as usize],
-    pub next: Option<Wanted>,
+    pub next: Wanted,
 }
 
 impl Choices {
     // Nothing is chosen, and nothing is known of what is next.
     pub fn none() -> Choices
-        ensures { result ≡ choices (replicate 32 0) None }
+        ensures { result ≡ choices (replicate 32 0) none_wanted }
     {
         Choices {
             chosen: [0; MODULES as usize],
-            next: None,
+            next: Wanted::nothing(),
         }
     }
 
@@ -39,9 +39,9 @@ impl Choices {
 
     // The choice of a wanted module is taken back: it is next again.
     pub fn take_back(mut self, w: Wanted) -> Choices
-        ensures { result ≡ choices (set self.chosen w.owner.0 0) (Some w) }
+        ensures { result ≡ choices (set self.chosen w.owner.0 0) w }
     {
-        self.next = Some(w);
+        self.next = w;
         put(&mut self.chosen, w.owner.0 as usize, 0);
         self
     }

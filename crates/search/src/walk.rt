@@ -59,7 +59,7 @@ pub fn place(
         return Ok(choices);
     }
     let mut record = choices.next_module(t, modules);
-    let Some(w) = record.next else {
+    let Some(w) = record.next.if_any() else {
         return Ok(record);
     };
     let m = w.owner;

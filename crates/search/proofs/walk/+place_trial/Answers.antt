@@ -1,5 +1,5 @@
 -- The proof of the cycle of calls {place, trial}: each way out is a lemma of proofs/Walks.antt.
-use mathlib.Core.Path.{refl, ◌∙◌, ap}
+use mathlib.Core.Path.{refl, sym, ◌∙◌, ap}
 use Rattle.store.specs.declared.lookup.Span.{Span}
 use Rattle.moves.specs.Noting.{sheet_of}
 use Rattle.search.specs.Choosing.{falling}
@@ -21,7 +21,7 @@ place-returns-in_default t c =
     let a = c.args in
     let v = moves_in a.t.now a.modules in
     let both = both_told (place_found v a.sheet.now.allowance a.choices (sheet_of a.sheet.now)
-    c.next_module-record.ensures a.unsettled c.if-unsettled-eq0.false c.in_default.is) in
+    c.next_module-record.ensures a.unsettled c.if-unsettled-eq0.false (sym c.if_any.ensures ∙ c.in_default.is)) in
     record { told = both.0; sheet = record { same = refl; allowance = refl; sheet = both.1 } }
 
 pub place-loop-untried-init : goal.place-loop-untried-init
@@ -33,7 +33,7 @@ place-loop-untried-init t c =
       allowance = c.cite.ensures.allowance;
       goes = record {
         same = place_begun v a.sheet.now.allowance a.choices (sheet_of a.sheet.now) c.next_module-record.ensures
-            a.unsettled c.if-unsettled-eq0.false c.in-Some.is (ap (λ (s : Span). falling s.first s.count) c.versions-versions.ensures)
+            a.unsettled c.if-unsettled-eq0.false (sym c.if_any.ensures ∙ c.in-Some.is) (ap (λ (s : Span). falling s.first s.count) c.versions-versions.ensures)
             c.cite.ensures.sheet;
       };
     }
