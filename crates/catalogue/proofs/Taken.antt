@@ -13,7 +13,7 @@ use Rattle.frames.specs.Texts.{Kept, FrameTaken}
 use Rattle.frames.proofs.Judged.{row_kind}
 use Rattle.frames.proofs.Taken.{frame_refused, frame_kept}
 use Rattle.store.specs.declared.frame.Last.{Last}
-use Rattle.store.specs.Frame.{Fields, State, state_of, state_told, last_of, fields_by, frame_fault, after}
+use Rattle.store.specs.Frame.{Fields, State, state_of, state_told, last_of, fields_at, frame_fault, after}
 use Rattle.store.specs.declared.tables.Tables.{Tables}
 use Rattle.store.specs.Tables.{kept, last_in}
 use Rattle.store.specs.Tidy.{Reads}
@@ -22,7 +22,11 @@ use Rattle.store.proofs.Kept.{reads_step, count_law, last_law}
 use Rattle.catalogue.specs.declared.reading.Catalogue.{Catalogue}
 use Rattle.catalogue.specs.Reading.{reader, StandsFor}
 
--- the fields that the code reads of the bytes it has kept, by the row of their kind
+-- the fields of the bytes that the code has kept, by a row of the table
+abbrev fields_by : Rules.Kind → (bytes : List ℕ) → Fields
+fields_by r f = fields_at r.first r.second r.third f
+
+-- those that it reads, by the row of their kind
 abbrev pub fields_had : (bytes : List ℕ) → Fields
 fields_had f = fields_by (row_for catalogues (byte_at f 0)) f
 

@@ -6,8 +6,8 @@ ghost use Rattle.catalogue.specs.Reading.{StandsFor, nothing_read, reader, Catal
 
 use frames::access::at;
 use frames::faults::{Fault, Refusal, ensure};
-use frames::fields::LONGEST;
-use frames::kinds::{Row, Text};
+use frames::fields::Frame;
+use frames::kinds::Text;
 use frames::texts::{LineReader, read_text};
 use store::frame::{Stands, State, fields_of, frame_fault};
 use store::limits::BYTES;
@@ -47,8 +47,8 @@ impl LineReader for Catalogue {
         Text::Catalogue
     }
 
-    fn take(&mut self, frame: [u8; LONGEST], row: Row) -> Result<(), Refusal> {
-        let f = fields_of(frame, row);
+    fn take(&mut self, frame: Frame) -> Result<(), Refusal> {
+        let f = fields_of(frame);
         let last = self.tables.last(self.state.versions);
         let count = at(&self.tables.counts, f.owner.0 as usize, 0);
         frame_fault(self.state, last, count, f)?;

@@ -1,12 +1,22 @@
 // The bytes of a frame while its line is read, and the fields in them.
 ghost use Rattle.std.specs.Prelude.{◌≡◌};
 ghost use Rattle.rules.specs.Frames.{byte_at, pair_at, version_at};
+ghost use Rattle.frames.specs.Kinds.{kind_number};
 
 use crate::access;
+use crate::kinds::Row;
 use crate::numbers::Version;
 
 // The bytes of the longest frame.
 pub const LONGEST: usize = 9;
+
+// A frame, and the row of its kind: it begins with the kind's byte.
+#[derive(Clone, Copy)]
+pub struct Frame {
+    pub bytes: [u8; LONGEST],
+    pub row: Row,
+    ghost begins: { byte_at bytes 0 ≡ kind_number row.kind },
+}
 
 // A byte of the frame; 0 past the longest frame.
 pub fn byte_in(frame: [u8; LONGEST], at: usize) -> u8

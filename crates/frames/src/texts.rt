@@ -8,8 +8,8 @@ ghost use Rattle.frames.specs.Texts.{FrameTaken, LineTaken, LinesTaken, TextRead
 use crate::access::put;
 use crate::digits::{Pair, pair_at};
 use crate::faults::{Fault, Refusal, line_row};
-use crate::fields::LONGEST;
-use crate::kinds::{Row, Text};
+use crate::fields::{Frame, LONGEST};
+use crate::kinds::Text;
 
 // A reader of one kind of text: it judges the frames one after the other, and keeps of each good one what it is about.
 pub trait LineReader {
@@ -30,10 +30,10 @@ pub trait LineReader {
         ensures { text_number result ≡ reads.text };
 
     // Judges a frame, in a line that fits its kind; a good one is kept.
-    fn take(&mut self, frame: [u8; LONGEST], row: Row) -> Result<(), Refusal>
+    fn take(&mut self, frame: Frame) -> Result<(), Refusal>
         requires begun { (u : Known) × stands self.old u }
-        requires row { row_of row ≡ row_for reads.text (byte_at frame 0) }
-        ensures taken { FrameTaken reads stands self.old self.new frame (told result) }
+        requires row { row_of frame.row ≡ row_for reads.text (byte_at frame.bytes 0) }
+        ensures taken { FrameTaken reads stands self.old self.new frame.bytes (told result) }
         ensures same { lender self.new ≡ lender self.old };
 
     // Whether the end has been read.
@@ -45,20 +45,20 @@ pub trait LineReader {
         ensures { (u : Known) → stands self.now u → told result ≡ reads.last u };
 }
 
-// A whole line: its shape, its sum and its kind, and then what the reader finds in its frame.
+// A whole line, of which as many bytes are kept as a frame has: its shape, its sum and its kind, and then what the reader finds in its frame.
 fn take_line<R: LineReader>(
     reader: &mut R,
-    frame: [u8; LONGEST],
+    kept: [u8; LONGEST],
     bytes: usize,
     sum: u32,
 ) -> Result<(), Refusal>
     requires begun { (u : R.Known) × R.stands reader.old u }
     requires size { bytes ≤ 4294967295 }
-    ensures taken { LineTaken R.reads R.stands reader.old reader.new frame bytes sum (told result) }
+    ensures taken { LineTaken R.reads R.stands reader.old reader.new kept bytes sum (told result) }
     ensures same { R.lender reader.new ≡ R.lender reader.old }
 {
-    let row = line_row(R::text(), frame[0], bytes, sum)?;
-    reader.take(frame, row)
+    let row = line_row(R::text(), kept[0], bytes, sum)?;
+    reader.take(Frame { bytes: kept, row })
 }
 
 // Lines of digits, a frame a line. The digit loop is left at the first character that can't stand, and the reading at the first faulty line; else it

@@ -19,7 +19,7 @@ use Rattle.frames.proofs.Taken.{frame_refused, frame_kept}
 use Rattle.store.specs.Lent.{lent_of}
 use Rattle.store.proofs.Kept.{checks_none}
 use Rattle.sheets.specs.declared.reading.SheetReader.{SheetReader}
-use Rattle.sheets.specs.Frame.{Fields, State, state_told, fields_by, fields_in, frame_fault, after}
+use Rattle.sheets.specs.Frame.{Fields, State, state_told, fields_at, fields_in, frame_fault, after}
 use Rattle.sheets.specs.Reading.{kept_line, Held, held, reader, StandsFor}
 use Rattle.sheets.proofs.Faults.{Known, a_head, a_need, a_resolved, an_end, known_kind}
 
@@ -48,7 +48,7 @@ few_now old new f k e state few =
     omega (arith, due, lines, few_step (state_told old.state) old.lent.modules old.lent.needs f few k e)
 
 -- the fields that the code gets are the frame's
-module _ {bytes : List ℕ} {r : Rules.Kind} {f : Fields} (fields_are : f ≡ fields_by r bytes) (row_is : r ≡ row_for sheets (byte_at bytes 0)) where
+module _ {bytes : List ℕ} {r : Rules.Kind} {f : Fields} (fields_are : f ≡ fields_at r.first r.second r.third bytes) (row_is : r ≡ row_for sheets (byte_at bytes 0)) where
   fields : {frame : List ℕ} → Kept sheets bytes frame → f ≡ fields_in frame
   fields k = rw (fields_are, row_is) (simp (k.alike, row_kind kinds sheets))
 

@@ -3,7 +3,6 @@ use Rattle.std.specs.Prelude.{true, ◌&&◌, not, cond, List, ℕ, ◌+◌, ◌
 use Rattle.rules.specs.Lists.{is_in}
 use Rattle.rules.specs.Frames.{byte_at, kind_of, pair_at, sheets, kinds, row_in}
 use Rattle.rules.specs.Sheet.{SheetReading, most_lines}
-use Rattle.rules.specs.Frames as Rules
 use Rattle.store.specs.Frame.{module_no, stands_number, checks}
 use Rattle.frames.specs.Kinds.{kind_number}
 use Rattle.frames.specs.declared.numbers.ModuleNo.{ModuleNo}
@@ -42,10 +41,6 @@ fields_at i j k f = record { kind = byte_at f 0; first = pair_at f i; second = p
 abbrev pub fields_in : (frame : List ℕ) → Fields
 fields_in f =
     fields_at (row_in kinds sheets (kind_of f)).first (row_in kinds sheets (kind_of f)).second (row_in kinds sheets (kind_of f)).third f
-
--- of a kind with this row of the table
-abbrev pub fields_by : Rules.Kind → (frame : List ℕ) → Fields
-fields_by r f = record { kind = r.kind; first = pair_at f r.first; second = pair_at f r.second; owner = module_no (byte_at f r.third) }
 
 -- 5 and 6, kind by kind: a head, a need line and a resolved line where lines are due, an end where none is
 abbrev pub head_fault : State → Fields → ℕ

@@ -1,12 +1,11 @@
 // A frame of a sheet: its fields, what is wrong with it, and how the reading goes on after it.
 ghost use Rattle.std.specs.Prelude.{◌≡◌, ◌<◌};
 ghost use Rattle.frames.specs.Faults.{told};
-ghost use Rattle.frames.specs.Kinds.{row_of};
-ghost use Rattle.sheets.specs.Frame.{state_told, fields_told, fields_by, head_fault, need_fault, resolved_fault, end_fault, frame_fault, after};
+ghost use Rattle.sheets.specs.Frame.{state_told, fields_told, fields_at, head_fault, need_fault, resolved_fault, end_fault, frame_fault, after};
 
 use frames::faults::Refusal;
-use frames::fields::{LONGEST, byte_in, pair_in};
-use frames::kinds::{Kind, Row};
+use frames::fields::{Frame, byte_in, pair_in};
+use frames::kinds::Kind;
 use frames::numbers::ModuleNo;
 use store::frame::{Stands, checks};
 use store::tables::one_less;
@@ -117,13 +116,14 @@ impl State {
     }
 }
 
-// The fields of a frame of a kind with this row of the table.
-pub fn fields_of(frame: [u8; LONGEST], row: Row) -> Fields
-    ensures { fields_told result ≡ fields_by (row_of row) frame }
+// The fields of a frame, by the row of its kind.
+pub fn fields_of(frame: Frame) -> Fields
+    ensures { fields_told result ≡ fields_at frame.row.first frame.row.second frame.row.third frame.bytes }
 {
-    let first = pair_in(frame, row.first);
-    let second = pair_in(frame, row.second);
-    let owner = byte_in(frame, row.third as usize) as u16;
+    let Frame { bytes, row } = frame;
+    let first = pair_in(bytes, row.first);
+    let second = pair_in(bytes, row.second);
+    let owner = byte_in(bytes, row.third as usize) as u16;
     Fields {
         kind: row.kind,
         first,

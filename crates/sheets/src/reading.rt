@@ -8,8 +8,8 @@ ghost use Rattle.sheets.specs.Reading.{Held, StandsFor, reader, kept_line, Sheet
 
 use crate::frame::{Fields, State, fields_of, frame_fault};
 use frames::faults::{Fault, Refusal, ensure};
-use frames::fields::LONGEST;
-use frames::kinds::{Kind, Row, Text};
+use frames::fields::Frame;
+use frames::kinds::{Kind, Text};
 use frames::texts::{LineReader, read_text};
 use rows::derived::{refutes, resolved_row};
 use rows::needed::need_row;
@@ -55,8 +55,8 @@ impl<'a> LineReader for SheetReader<'a> {
         Text::Sheet
     }
 
-    fn take(&mut self, frame: [u8; LONGEST], row: Row) -> Result<(), Refusal> {
-        let f = fields_of(frame, row);
+    fn take(&mut self, frame: Frame) -> Result<(), Refusal> {
+        let f = fields_of(frame);
         frame_fault(self.state, self.lent.modules, self.lent.needs, f)?;
         keep_line(self.work, &self.lent, self.state, f);
         self.state = self.state.after(f);

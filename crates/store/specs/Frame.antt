@@ -3,7 +3,6 @@ use Rattle.std.specs.Prelude.{Bool, true, ◌&&◌, ◌||◌, not, cond, List, �
 use Rattle.rules.specs.Lists.{is_in}
 use Rattle.rules.specs.Lines.{or_else, unless}
 use Rattle.rules.specs.Frames.{byte_at, version_at}
-use Rattle.rules.specs.Frames as Rules
 use Rattle.rules.specs.Catalogue.{Catalogue, Limits, Reading, last_version, needs_of}
 use Rattle.frames.specs.declared.numbers.ModuleNo.{ModuleNo}
 use Rattle.frames.specs.declared.numbers.Place.{Place}
@@ -78,17 +77,6 @@ fields_at i j k f =
       low = version (version_at f j);
       topped = eqb (byte_at f j) 255 || eqb (byte_at f (j + 1)) 255 || eqb (byte_at f (j + 2)) 255;
       high = version (cond (eqb (byte_at f 0) 5) ((byte_at f j + 1) * 65536) (version_at f k));
-    }
-
--- the fields of a frame of a kind with this row of the table
-abbrev pub fields_by : Rules.Kind → (frame : List ℕ) → Fields
-fields_by r f =
-    record {
-      kind = r.kind;
-      owner = module_no (byte_at f r.first);
-      low = version (version_at f r.second);
-      topped = eqb (byte_at f r.second) 255 || eqb (byte_at f (r.second + 1)) 255 || eqb (byte_at f (r.second + 2)) 255;
-      high = version (cond (eqb r.kind 5) ((byte_at f r.second + 1) * 65536) (version_at f r.third));
     }
 
 -- 5, 6 and 7: the first of three tests that fails

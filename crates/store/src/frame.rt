@@ -2,13 +2,12 @@
 ghost use Rattle.std.specs.Prelude.{◌≡◌, ◌<◌};
 ghost use Rattle.rules.specs.Catalogue.{limits};
 ghost use Rattle.frames.specs.Faults.{told};
-ghost use Rattle.frames.specs.Kinds.{row_of};
-ghost use Rattle.store.specs.Frame.{state_told, fields_told, fields_by, checks, head_fault, version_fault, need_fault, end_fault, frame_fault, after};
+ghost use Rattle.store.specs.Frame.{state_told, fields_told, fields_at, checks, head_fault, version_fault, need_fault, end_fault, frame_fault, after};
 
 use crate::limits::{MODULES, NEEDS, OF_MODULE, OF_VERSION};
 use frames::faults::{Refusal, ensure};
-use frames::fields::{LONGEST, byte_in, version_in};
-use frames::kinds::{Kind, Row};
+use frames::fields::{Frame, byte_in, version_in};
+use frames::kinds::Kind;
 use frames::numbers::{ModuleNo, Place, Version};
 
 // The fields of a frame of any kind: a module (of a head, how many), a version or the low end of a range with whether it has a byte 255, and the
@@ -158,22 +157,23 @@ impl State {
     }
 }
 
-// The fields of a frame of a kind with this row of the table.
-pub fn fields_of(frame: [u8; LONGEST], row: Row) -> Fields
-    ensures { fields_told result ≡ fields_by (row_of row) frame }
+// The fields of a frame, by the row of its kind.
+pub fn fields_of(frame: Frame) -> Fields
+    ensures { fields_told result ≡ fields_at frame.row.first frame.row.second frame.row.third frame.bytes }
 {
+    let Frame { bytes, row } = frame;
     let i = row.first as usize;
     let j = row.second as usize;
-    let owner = byte_in(frame, i) as u16;
-    let major = byte_in(frame, j);
-    let minor = byte_in(frame, j + 1);
-    let patch = byte_in(frame, j + 2);
+    let owner = byte_in(bytes, i) as u16;
+    let major = byte_in(bytes, j);
+    let minor = byte_in(bytes, j + 1);
+    let patch = byte_in(bytes, j + 2);
     let topped = (major == 255) | (minor == 255) | (patch == 255);
-    let low = version_in(frame, row.second);
+    let low = version_in(bytes, row.second);
     let high = match row.kind {
         // A caret's range ends at the next major version.
         Kind::Caret => Version((major as u32 + 1) * 65536),
-        _ => version_in(frame, row.third),
+        _ => version_in(bytes, row.third),
     };
     Fields {
         kind: row.kind,

@@ -1,7 +1,7 @@
 // The tables that a catalogue is read into: what they hold at the start, what a frame adds, and what they tell of the version last read.
-ghost use Rattle.std.specs.Prelude.{◌≡◌, ◌-◌, ◌<◌};
+ghost use Rattle.std.specs.Prelude.{◌≡◌, ◌-◌, ◌<◌, true};
 ghost use Rattle.store.specs.Frame.{state_told, fields_told};
-ghost use Rattle.store.specs.Tables.{no_tables, kept, version_kept, need_kept, last_in};
+ghost use Rattle.store.specs.Tables.{no_tables, is_version, is_need, kept, version_kept, need_kept, last_in};
 
 use crate::frame::{Fields, Last, State};
 use crate::limits::{MODULES, NEEDS, VERSIONS};
@@ -104,8 +104,8 @@ impl Tables {
 
     // What a frame adds: `s` is the state before it, `count` how many versions its module has before it.
     pub fn keep(&mut self, s: State, last: Last, count: u16, f: Fields)
-        requires versions { count < 65535 }
-        requires needs { last.needs < 65534 }
+        requires versions { is_version (fields_told f) ≡ true → count < 65535 }
+        requires needs { is_need (fields_told f) ≡ true → last.needs < 65534 }
         ensures { self.new ≡ kept self.old (state_told s) last count (fields_told f) }
     {
         match f.kind {
