@@ -6,11 +6,10 @@ use mathlib.Core.List.{List}
 use Prim.Native.Nat.{ℕ}
 use lib.ListN.{length, get_or}
 use Rattle.rules.specs.Frames as Rules
-use Rattle.rules.specs.Frames.{byte_at, kinds, row_in, catalogues}
+use Rattle.rules.specs.Frames.{byte_at, catalogues}
 use Rattle.rules.specs.Catalogue.{Reading, places_of, limits}
 use Rattle.frames.specs.Kinds.{row_for}
 use Rattle.frames.specs.Texts.{Kept, FrameTaken}
-use Rattle.frames.proofs.Judged.{row_kind}
 use Rattle.frames.proofs.Taken.{frame_refused, frame_kept}
 use Rattle.store.specs.declared.frame.Last.{Last}
 use Rattle.store.specs.Frame.{Fields, State, state_of, state_told, last_of, fields_at, frame_fault, after}
@@ -43,7 +42,7 @@ all_got {bytes} e row a b = record { fields_are = e ∙ ap (λ (r : Rules.Kind).
 module _ {bytes : List ℕ} {s : State} {t : Tables} {f : Fields} {z : Last} {n : ℕ} (g : Got bytes s t f z n) {u : Reading} {frame : List ℕ}
     (told : s ≡ state_of u) (reads : Reads t u) (k : Kept catalogues bytes frame) where
   fields : f ≡ fields_in frame
-  fields = rw g.fields_are (simp (k.alike, row_kind kinds catalogues))
+  fields = rw g.fields_are (simp (k.alike))
 
   last : z ≡ last_of u.sofar
   last = g.last_is ∙ ap (λ (v : State). last_in t.values t.owners t.marks v.versions) told ∙ last_law reads.tidy

@@ -1,7 +1,9 @@
 // A catalogue's text read into tables, a frame a line, as far as the first faulty line.
-ghost use Rattle.std.specs.Prelude.{◌≡◌};
+ghost use Rattle.std.specs.Prelude.{◌≡◌, eqb, get_or};
+ghost use Rattle.rules.specs.Lines.{unless};
 ghost use Rattle.rules.specs.Catalogue.{Reading};
-ghost use Rattle.frames.specs.Faults.{fault_told};
+ghost use Rattle.frames.specs.Faults.{told, fault_told};
+ghost use Rattle.store.specs.Frame.{state_told};
 ghost use Rattle.catalogue.specs.Reading.{StandsFor, nothing_read, reader, CatalogueRead};
 
 use frames::access::at;
@@ -57,12 +59,17 @@ impl LineReader for Catalogue {
         Ok(())
     }
 
-    fn is_ended(&self) -> bool {
+    fn is_ended(&self) -> bool
+        ensures { result ≡ eqb (state_told self.now.state).stands 2 }
+    {
         self.state.stands == Stands::AfterEnd
     }
 
     // The root has exactly one version.
-    fn last(&self) -> Result<(), Refusal> {
+    fn last(&self) -> Result<(), Refusal>
+        ensures counted { told result ≡ unless (eqb (get_or self.now.tables.counts 0 0) 1) 8 }
+        ensures read { (u : Reading) → StandsFor self.now u → told result ≡ reader.last u }
+    {
         ensure(at(&self.tables.counts, 0, 0) == 1, Refusal::Root)
     }
 }

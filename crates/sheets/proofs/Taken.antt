@@ -9,12 +9,11 @@ use native.Mathlib.Omega.{arith}
 use lib.Dec.{leb, eqb}
 use borrow.Author.Tests.{leb-true, eqb-false, not-true}
 use Rattle.rules.specs.Frames as Rules
-use Rattle.rules.specs.Frames.{byte_at, kind_of, kinds, sheets}
+use Rattle.rules.specs.Frames.{byte_at, kind_of, sheets}
 use Rattle.rules.specs.Sheet.{most_lines}
 use Rattle.rules.proofs.Lists.{and_snd}
 use Rattle.frames.specs.Kinds.{row_for}
 use Rattle.frames.specs.Texts.{Kept, FrameTaken}
-use Rattle.frames.proofs.Judged.{row_kind}
 use Rattle.frames.proofs.Taken.{frame_refused, frame_kept}
 use Rattle.store.specs.Lent.{lent_of}
 use Rattle.store.proofs.Kept.{checks_none}
@@ -50,7 +49,7 @@ few_now old new f k e state few =
 -- the fields that the code gets are the frame's
 module _ {bytes : List ℕ} {r : Rules.Kind} {f : Fields} (fields_are : f ≡ fields_at r.first r.second r.third bytes) (row_is : r ≡ row_for sheets (byte_at bytes 0)) where
   fields : {frame : List ℕ} → Kept sheets bytes frame → f ≡ fields_in frame
-  fields k = rw (fields_are, row_is) (simp (k.alike, row_kind kinds sheets))
+  fields k = rw (fields_are, row_is) (simp (k.alike))
 
   known : {frame : List ℕ} → Kept sheets bytes frame → Known f.kind
   known {frame} k = subst (λ (x : Fields). Known x.kind) (sym (fields k)) (known_kind (kind_of frame) k.known)
