@@ -2,16 +2,14 @@
 -- Assumes nothing.
 use mathlib.Core.Path.{◌≡◌, ◌∙◌, ap}
 use mathlib.Core.List.{List, ◌++◌, flat_map}
-use Prim.Native.Nat.{ℕ, ◌+◌, ◌/◌, ◌%◌, ◌-◌, ◌≤◌, ◌<◌}
+use Prim.Native.Nat.{ℕ, ◌+◌, ◌/◌, ◌%◌, ◌≤◌, ◌<◌}
 use native.Mathlib.Omega.{arith}
-use borrow.Rule.Slice.PartMut.{put_mid}
 use lib.ListN.{length, length-append}
-use lib.Seq.{sets, length-sets}
+use lib.Seq.{sets}
 use Rattle.rules.specs.Sheet.{Entry, entry_text, sheet_text}
 use Rattle.rules.proofs.Written.{frame_length}
 use Rattle.frames.proofs.Areas.{sets_append}
 use Rattle.picker.specs.Written.{head_of, end_line, sheet_in}
-use Rattle.picker.proofs.Stored.{part_stored}
 
 module _ (lines : List ℕ) (count : ℕ) where
   head_length : length (head_of count) ≡ 9
@@ -25,24 +23,17 @@ module _ (lines : List ℕ) (count : ℕ) where
       rw (length-append (head_of count ++ lines) end_line, length-append (head_of count) lines) (omega arith)
 
   -- head, lines and end, as the calls say where they are stored
-  pub sheet_stored : (old : List ℕ) {headed copied ended : List ℕ} {start end r : ℕ} → length lines ≡ end → end + 14 ≤ length old → start ≡ 9 →
-      headed ≡ sets old 0 (head_of count) → copied ≡ lines → r ≡ start + end + 5 →
-      ended ≡ sets (put_mid start (start + end - start) headed copied) (start + end) end_line →
+  pub sheet_stored : (old : List ℕ) {headed lined ended : List ℕ} {start end stop r : ℕ} → length lines ≡ end → start ≡ 9 →
+      headed ≡ sets old 0 (head_of count) → stop ≡ start + end → lined ≡ sets headed start lines → r ≡ stop + 5 → ended ≡ sets lined stop end_line →
       (r ≡ length (sheet_in lines count)) × (ended ≡ sets old 0 (sheet_in lines count))
   unfolding sheet_in
-  sheet_stored old {headed} {copied} {ended} {start} {end} {r} n m s h l z x =
-      (omega (arith, sheet_length), x ∙ rw (l, lined, h) (ap (λ (area : List ℕ). sets area (start + end) end_line) behind_head ∙ behind_lines))
+  sheet_stored old {headed} {lined} {ended} {start} {end} {stop} {r} n s h e l z x =
+      (omega (arith, sheet_length), x ∙ rw (l, h) (ap (λ (area : List ℕ). sets area stop end_line) behind_head ∙ behind_lines))
     where
-      room : length headed ≡ length old
-      room = ap length h ∙ length-sets old 0 (head_of count)
-
-      lined : put_mid start (start + end - start) headed lines ≡ sets headed start lines
-      lined = part_stored lines headed start (start + end - start) (omega arith) (omega (arith, room))
-
       behind_head : sets (sets old 0 (head_of count)) start lines ≡ sets old 0 (head_of count ++ lines)
       behind_head = sets_append old 0 (head_of count) lines (omega (arith, head_length))
 
-      behind_lines : sets (sets old 0 (head_of count ++ lines)) (start + end) end_line ≡ sets old 0 (head_of count ++ lines ++ end_line)
+      behind_lines : sets (sets old 0 (head_of count ++ lines)) stop end_line ≡ sets old 0 (head_of count ++ lines ++ end_line)
       behind_lines = sets_append old 0 (head_of count ++ lines) end_line (omega (arith, length-append (head_of count) lines, head_length))
 
 -- THE LAW: with the text of a sheet's lines and their number it is the sheet's text

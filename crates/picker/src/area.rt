@@ -1,5 +1,6 @@
-// Lent areas: all bytes made 0.
-ghost use Rattle.std.specs.Prelude.{◌≡◌};
+// Lent areas: all bytes made 0, and bytes copied from one area into another.
+ghost use Rattle.std.specs.Prelude.{◌≡◌, ◌+◌, ◌≤◌, length, take};
+ghost use Rattle.std.proofs.lemmas.List.Edits.{sets};
 ghost use Rattle.picker.specs.Entry.{zeroed};
 
 // Makes every byte of an area 0.
@@ -7,4 +8,18 @@ pub fn clear(area: &mut [u8])
     ensures { area.new ≡ zeroed area.old }
 {
     area.fill(0);
+}
+
+// Copies the first bytes of a text into an area at a place; says where they end. Every other byte of the area stays. The bytes are copied in a loop, so that
+// the archive for C asks no more of its user's C library than it did.
+pub fn copy(out: &mut [u8], at: usize, text: &[u8], count: usize) -> usize
+    requires has { count ≤ length text.now }
+    requires room { at + count ≤ length out.old }
+    ensures size { result ≡ at + count }
+    ensures area { out.new ≡ sets out.old at (take count text.now) }
+{
+    for i in 0..count {
+        out[at + i] = text[i];
+    }
+    at + count
 }

@@ -3,6 +3,7 @@ ghost use Rattle.std.specs.Prelude.{◌≡◌, ◌+◌, ◌≤◌, length, take}
 ghost use Rattle.std.proofs.lemmas.List.Edits.{sets};
 ghost use Rattle.picker.specs.Written.{sheet_in};
 
+use crate::area;
 use frames::kinds::Kind;
 use frames::written;
 
@@ -15,7 +16,6 @@ pub fn write_sheet(out: &mut [u8], lines: &[u8], count: u16, end: usize) -> usiz
 {
     let [high, low] = count.to_be_bytes();
     let start = written::write_frame(out, 0, &[Kind::SheetHead as u8, high, low]);
-    let stop = start + end;
-    out[start..stop].copy_from_slice(&lines[..end]);
+    let stop = area::copy(out, start, lines, end);
     written::write_frame(out, stop, &[Kind::SheetEnd as u8])
 }

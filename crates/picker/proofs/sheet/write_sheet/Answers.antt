@@ -7,8 +7,9 @@ pub returns : goal.returns
 returns c =
     let given = c.args in
     let head = c.write_frame-start.ensures in
+    let lines = c.copy-stop.ensures in
     let last = c.write_frame.ensures in
     let long = length-take-le given.end given.lines.now c.requires.has in
     let headed = rw c.to_be_bytes.ensures at head.area in
-    let stored = sheet_stored _ given.count given.out.now long c.requires.room head.size headed c.copy_from_slice.ensures.after last.size last.area in
+    let stored = sheet_stored _ given.count given.out.now long head.size headed lines.size lines.area last.size last.area in
     record { size = stored.0; area = stored.1 }
