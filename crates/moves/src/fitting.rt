@@ -26,7 +26,7 @@ pub fn fits(t: &Tables, chosen: &[u16; MODULES as usize], w: Wanted, p: Place) -
     bar.is_none()
 }
 
-// The need that bars a trial of module m at a place is cited; where none does, the greatest number. It is looked for only as long as lines have room.
+// The need that bars a trial of module m at a place is cited; where none does, NONE. It is looked for only as long as lines have room.
 pub fn cite_bar(
     t: &Tables,
     chosen: &[u16; MODULES as usize],
@@ -42,5 +42,5 @@ pub fn cite_bar(
         return;
     }
     let hit = scan::barring(t, chosen, modules, m, p);
-    sheet.cite(hit.unwrap_or(u32::MAX));
+    sheet.cite(hit.unwrap_or(scan::NONE));
 }

@@ -8,6 +8,9 @@ use store::limits::MODULES;
 use store::lookup::Span;
 use store::tables::Tables;
 
+// What stands for no need where a number has to be told: in a line that is cited, and of what is wanted before any need asks for it.
+pub const NONE: u32 = u32::MAX;
+
 // Need k leaves out the version at a place.
 pub fn leaves_out(t: &Tables, k: u32, p: Place) -> bool
     ensures { result ≡ leaves_out_in t.now k (suc p.0) }

@@ -3,6 +3,7 @@
 ghost use Rattle.std.specs.Prelude.{◌≡◌};
 ghost use Rattle.moves.specs.Wanted.{none_wanted, narrowed, if_any, better_in, fold_in, wanted_at, wanted_in};
 
+use crate::scan::NONE;
 use frames::access::at;
 use frames::numbers::{ModuleNo, Place, Version};
 use store::limits::MODULES;
@@ -12,8 +13,8 @@ use store::tables::Tables;
 // No module yet: the greatest number, which every other is below.
 pub const NO_MODULE: ModuleNo = ModuleNo(u16::MAX);
 
-// A module to choose, the number of the first need that asks for it, and the range that the needs of chosen versions leave to it; NO_MODULE where none
-// is wanted.
+// A module to choose, the number of the first need that asks for it, and the range that the needs of chosen versions leave to it; NO_MODULE and NONE
+// where nothing is wanted.
 #[derive(Clone, Copy)]
 pub struct Wanted {
     pub need: u32,
@@ -28,7 +29,7 @@ impl Wanted {
         ensures { result ≡ none_wanted }
     {
         Wanted {
-            need: u32::MAX,
+            need: NONE,
             low: Version::LOWEST,
             high: Version::NO_END,
             owner: NO_MODULE,
