@@ -21,23 +21,15 @@ use Rattle.store.proofs.Kept.{reads_step, count_law, last_law}
 use Rattle.catalogue.specs.declared.reading.Catalogue.{Catalogue}
 use Rattle.catalogue.specs.Reading.{reader, StandsFor}
 
--- the fields of the bytes that the code has kept, by a row of the table
-abbrev fields_by : Rules.Kind → (bytes : List ℕ) → Fields
-fields_by r f = fields_at r.first r.second r.third f
-
--- those that it reads, by the row of their kind
-abbrev pub fields_had : (bytes : List ℕ) → Fields
-fields_had f = fields_by (row_for catalogues (byte_at f 0)) f
-
 -- WHAT IS GOT of a line's bytes and of the tables: the fields, the version last read, and how many versions the line's module has
 pub record Got (bytes : List ℕ) (s : State) (t : Tables) (f : Fields) (z : Last) (n : ℕ) : Type 0 where
-  pub fields_are : f ≡ fields_had bytes
+  pub fields_are : f ≡ fields_in bytes
   pub last_is : z ≡ last_in t.values t.owners t.marks s.versions
   pub count_is : n ≡ get_or t.counts f.owner.0 0
 
-pub all_got : {bytes : List ℕ} {s : State} {t : Tables} {f : Fields} {z : Last} {n : ℕ} {r : Rules.Kind} → f ≡ fields_by r bytes →
+pub all_got : {bytes : List ℕ} {s : State} {t : Tables} {f : Fields} {z : Last} {n : ℕ} {r : Rules.Kind} → f ≡ fields_at r.first r.second r.third bytes →
     r ≡ row_for catalogues (byte_at bytes 0) → z ≡ last_in t.values t.owners t.marks s.versions → n ≡ get_or t.counts f.owner.0 0 → Got bytes s t f z n
-all_got {bytes} e row a b = record { fields_are = e ∙ ap (λ (r : Rules.Kind). fields_by r bytes) row; last_is = a; count_is = b }
+all_got {bytes} e row a b = record { fields_are = e ∙ ap (λ (r : Rules.Kind). fields_at r.first r.second r.third bytes) row; last_is = a; count_is = b }
 
 module _ {bytes : List ℕ} {s : State} {t : Tables} {f : Fields} {z : Last} {n : ℕ} (g : Got bytes s t f z n) {u : Reading} {frame : List ℕ}
     (told : s ≡ state_of u) (reads : Reads t u) (k : Kept catalogues bytes frame) where

