@@ -1,5 +1,5 @@
 -- What an area holds with a text stored in it: at its start (`stored_over`), and at each turn of copying a text into it (`Copied`). Assumes nothing.
-use mathlib.Core.Path.{◌≡◌, refl, ◌∙◌}
+use mathlib.Core.Path.{◌≡◌, ◌∙◌}
 use mathlib.Core.List.{List, [], ◌∷◌, ◌++◌}
 use Prim.Native.Nat.{ℕ, ◌+◌, ◌≤◌, ◌<◌}
 use native.Mathlib.Omega.{arith}
@@ -20,9 +20,6 @@ pub record Copied (old : List ℕ) (at : ℕ) (text : List ℕ) (count : ℕ) (a
   pub stored : area ≡ sets old at (take i text)
 
 module _ (old : List ℕ) (at : ℕ) (text : List ℕ) (count : ℕ) where
-  pub none_copied : Copied old at text count old 0
-  none_copied = record { within = omega arith; size = refl; stored = refl }
-
   module _ {area : List ℕ} {i : ℕ} (h : Copied old at text count area i) where
     pub one_copied : {x : ℕ} → i < count → count ≤ length text → x ≡ get_or text i 0 → Copied old at text count (set area (at + i) x) (i + 1)
     one_copied {x} l m e =
@@ -36,6 +33,3 @@ module _ (old : List ℕ) (at : ℕ) (text : List ℕ) (count : ℕ) where
       where
         taken : take (i + 1) text ≡ take i text ++ (get_or text i 0 ∷ [])
         taken = rw add-one (take-suc text i 0 (omega arith))
-
-    pub all_copied : count ≤ i → area ≡ sets old at (take count text)
-    all_copied l = let e : i ≡ count = omega (arith, h.within) in rw (← e) h.stored

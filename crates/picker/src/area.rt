@@ -10,8 +10,8 @@ pub fn clear(area: &mut [u8])
     area.fill(0);
 }
 
-// Copies the first bytes of a text into an area at a place; says where they end. Every other byte of the area stays. The bytes are copied in a loop, so that
-// the archive for C asks no more of its user's C library than it did.
+// Copies the first bytes of a text into an area at a place; says where they end. Every other byte of the area stays. It is a loop, since a copy by the
+// library would have the archive for C need memmove of whoever links it.
 pub fn copy(out: &mut [u8], at: usize, text: &[u8], count: usize) -> usize
     requires has { count ≤ length text.now }
     requires room { at + count ≤ length out.old }
